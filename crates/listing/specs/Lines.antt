@@ -1,0 +1,62 @@
+-- The lines of a log.
+use mathlib.Core.Bool.{Bool, true, false, cond}
+use mathlib.Core.List.{List, [], _∷_, _++_}
+use Prim.Native.Nat.{ℕ, zero, suc, _+_, _/_}
+use lib.Chars.{codes}
+use lib.Dec.{ltb}
+use lib.ListN.{drop, length}
+use Rattle.std.specs.Written.{decimal}
+use Rattle.std.specs.declared.option.Option.{Option}
+use Rattle.std.specs.declared.option.Option.the-variants.{Some, None}
+use Rattle.std.specs.declared.result.Result.{Result}
+use Rattle.std.specs.declared.result.Result.the-variants.{Ok, Err}
+use Rattle.record.specs.declared.entry.Record.{Record}
+use Rattle.record.specs.declared.reader.Reader.{Reader}
+use Rattle.record.specs.declared.reading.ReadRefusal.{ReadRefusal}
+use Rattle.record.specs.Records as records
+use Rattle.record.specs.Records.{readOne}
+use Rattle.record.specs.Shown.{shownRecord}
+use Rattle.listing.specs.declared.line.Fault.{Fault}
+use Rattle.listing.specs.declared.line.Fault.the-variants.{LogTooLong, Reader as FromReader}
+use Rattle.listing.specs.declared.line.Line.{Line}
+use Rattle.listing.specs.declared.line.Line.the-variants.{Read, Refused, Records}
+
+abbrev pub numberOf : Fault → ℕ
+numberOf LogTooLong = 37
+numberOf (FromReader refusal) = records.numberOf refusal
+
+abbrev pub layerOf : Fault → List ℕ
+layerOf LogTooLong = codes "reader"
+layerOf (FromReader refusal) = codes "reader"
+
+abbrev pub shownLine : Line → List ℕ
+shownLine (Read number offset x) = decimal number ++ (codes " " ++ (decimal offset ++ (codes " " ++ shownRecord x)))
+shownLine (Refused number fault offset) =
+    decimal number ++ (codes " refused " ++ (decimal (numberOf fault) ++ (codes " " ++ (layerOf fault ++ (codes " " ++ decimal offset)))))
+shownLine (Records count) = codes "records " ++ decimal count
+
+-- what a reader meets
+abbrev pub met : Reader → Result (Option Record) ReadRefusal
+met reader = readOne (drop (reader .offset) (reader .log .now))
+
+-- the line of what a reader met at an offset, if there is one
+abbrev pub lineAt : Result (Option Record) ReadRefusal → ℕ → List Line
+lineAt (Ok (Some x)) offset = Read (offset / 7 + 1) offset x ∷ []
+lineAt (Ok None) offset = []
+lineAt (Err refusal) offset = Refused (offset / 7 + 1) (FromReader refusal) offset ∷ []
+
+-- was a record read?
+abbrev pub goesOn : Result (Option Record) ReadRefusal → Bool
+goesOn (Ok (Some x)) = true
+goesOn (Ok None) = false
+goesOn (Err refusal) = false
+
+-- the lines from an offset on, of at most so many records
+unfoldable pub linesFrom : ℕ → List ℕ → ℕ → List Line
+linesFrom zero log offset = []
+linesFrom (suc most) log offset =
+    lineAt (readOne (drop offset log)) offset ++ cond (goesOn (readOne (drop offset log))) (linesFrom most log (offset + 7)) (Records (offset / 7) ∷ [])
+
+-- the lines of a log: of the longest log 1,170 records and the end are read
+abbrev pub linesOf : List ℕ → List Line
+linesOf log = cond (ltb 8190 (length log)) (Refused 0 LogTooLong 0 ∷ Records 0 ∷ []) (linesFrom 1171 log 0)

@@ -1,0 +1,81 @@
+//! Listing a log.
+
+ghost use lib.ListN.{length};
+ghost use mathlib.Core.List.{_++_};
+ghost use mathlib.Core.Path.{_≡_};
+ghost use Prim.Native.Nat.{_+_, _<_, _≤_};
+ghost use Rattle.std.specs.Of.Vec.{vec-cap, vec-items, vec-len};
+ghost use Rattle.record.specs.Records.{advance};
+ghost use Rattle.listing.specs.Lines.{goesOn, lineAt, linesFrom, linesOf, met};
+use crate::line::Fault;
+use crate::line::FaultFromRead;
+use crate::line::Line;
+use crate::room::Room;
+use record::reader::Reader;
+
+/// How many bytes a log has at the most.
+pub const LONGEST: usize = 8190;
+
+/// Lists what the reader meets, and answers whether it read a record.
+fn list_next(lines: &mut Vec<Line>, reader: &mut Reader) -> bool
+    requires { ⌜ vec-len (now lines) < vec-cap (now lines) ⌝ }
+    ensures answer { λ r. ⌜ r ≡ goesOn (met (now (reader .entry))) ⌝ }
+    ensures listed { λ r. ⌜ vec-items (now (lines .exit)) ≡ vec-items (now (lines .entry)) ++ lineAt (met (now (reader .entry))) (now (reader .entry) .offset) ⌝ }
+    ensures offset { λ r. ⌜ now (reader .exit) .offset ≡ now (reader .entry) .offset + advance (met (now (reader .entry))) ⌝ }
+    ensures log { λ r. ⌜ now (reader .exit) .log .now ≡ now (reader .entry) .log .now ⌝ }
+    ensures room { λ r. ⌜ vec-cap (now (lines .exit)) ≡ vec-cap (now (lines .entry)) ⌝ }
+{
+    let number = reader.number();
+    let offset = reader.offset();
+    match reader.next() {
+        Ok(Some(record)) => {
+            lines.push_reserved(Line::Read {
+                number,
+                offset,
+                record,
+            });
+            true
+        }
+        Ok(None) => false,
+        Err(refusal) => {
+            lines.push_reserved(Line::Refused {
+                number,
+                fault: refusal.into(),
+                offset,
+            });
+            false
+        }
+    }
+}
+
+/// Lists the records of a log, and how many were read.
+fn list_records(lines: &mut Vec<Line>, log: &[u8])
+    requires short { ⌜ length (now log) ≤ 8190 ⌝ }
+    requires unused { ⌜ vec-len (now lines) ≡ 0 ⌝ }
+    requires room { ⌜ 1172 ≤ vec-cap (now lines) ⌝ }
+    ensures { λ _. ⌜ vec-items (now (lines .exit)) ≡ linesFrom 1171 (now (log .entry)) 0 ⌝ }
+{
+    let mut reader = Reader::new(log);
+    while list_next(lines, &mut reader) {}
+    lines.push_reserved(Line::Records(reader.number() - 1));
+}
+
+impl Room {
+    /// The lines of a log.
+    pub fn list(self, log: &[u8]) -> Vec<Line>
+        ensures { λ r. ⌜ vec-items r ≡ linesOf (now (log .entry)) ⌝ }
+    {
+        let Room { mut lines } = self;
+        if log.len() > LONGEST {
+            lines.push_reserved(Line::Refused {
+                number: 0,
+                fault: Fault::LogTooLong,
+                offset: 0,
+            });
+            lines.push_reserved(Line::Records(0));
+        } else {
+            list_records(&mut lines, log);
+        }
+        lines
+    }
+}

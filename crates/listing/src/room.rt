@@ -1,0 +1,27 @@
+//! Memory for a listing, taken before there is one, so that listing a log cannot fail.
+
+ghost use Prim.Native.Nat.{_≤_};
+ghost use mathlib.Core.Path.{_≡_};
+ghost use Rattle.std.specs.Of.Vec.{vec-cap, vec-len};
+use crate::line::Line;
+use std::alloc::AllocError;
+use std::alloc::Global;
+
+/// How many lines the longest log has at the most: 1,170 records, a refusal and their count.
+pub const MOST_LINES: usize = 1172;
+
+/// Memory for the lines of one log.
+#[derive(Drop)]
+pub struct Room {
+    pub(crate) lines: Vec<Line>,
+    ghost unused: { vec-len lines ≡ 0 },
+    ghost enough: { 1172 ≤ vec-cap lines },
+}
+
+impl Room {
+    /// Takes the memory: the one call that can fail for want of it.
+    pub fn new(heap: Global) -> Result<Room, AllocError> {
+        let lines = Vec::with_capacity(heap, MOST_LINES)?;
+        Ok(Room { lines })
+    }
+}

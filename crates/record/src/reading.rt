@@ -1,0 +1,64 @@
+//! Reading a log, record by record.
+
+ghost use mathlib.Core.Path.{_≡_};
+ghost use Prim.Native.Nat.{_≤_};
+ghost use Rattle.record.specs.Records.{numberOf, readOne};
+use crate::entry::Record;
+use crate::kinds::row_of_byte;
+use crate::kinds::unused_are_zero;
+
+/// How many bytes a record has.
+pub const LENGTH: usize = 7;
+
+/// The two bytes with which every record begins.
+pub const MARK: [u8; 2] = [0x4D, 0x54];
+
+/// Why the bytes at hand are no record.
+#[derive(Clone, Copy, PartialEq, Eq, Debug)]
+pub enum ReadRefusal {
+    /// fewer than seven bytes are left
+    Incomplete,
+    /// they do not begin with the mark
+    Unmarked,
+    /// no kind has this byte
+    UnknownKind,
+    /// a field that the kind leaves unused is not 0
+    UnusedFieldSet,
+}
+
+impl ReadRefusal {
+    /// The number by which the refusal is reported.
+    pub fn number(self) -> u8
+        ensures { λ r. ⌜ r ≡ numberOf self ⌝ }
+    {
+        match self {
+            ReadRefusal::Incomplete => 31,
+            ReadRefusal::Unmarked => 32,
+            ReadRefusal::UnknownKind => 33,
+            ReadRefusal::UnusedFieldSet => 34,
+        }
+    }
+}
+
+/// The record with which the bytes begin; none where there are no bytes.
+pub fn read(bytes: &[u8]) -> Result<Option<Record>, ReadRefusal>
+    ensures { λ r. ⌜ r ≡ readOne (now (bytes .entry)) ⌝ }
+{
+    if bytes.is_empty() {
+        return Ok(None);
+    }
+    if bytes.len() < LENGTH {
+        return Err(ReadRefusal::Incomplete);
+    }
+    if bytes[0] != MARK[0] || bytes[1] != MARK[1] {
+        return Err(ReadRefusal::Unmarked);
+    }
+    let Some(row) = row_of_byte(bytes[2]) else {
+        return Err(ReadRefusal::UnknownKind);
+    };
+    let fields = [bytes[3], bytes[4], bytes[5], bytes[6]];
+    if !unused_are_zero(row.sorts, fields) {
+        return Err(ReadRefusal::UnusedFieldSet);
+    }
+    Ok(Some(Record::of(row.kind, fields)))
+}
