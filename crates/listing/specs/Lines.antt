@@ -1,10 +1,12 @@
 -- The lines of a log.
 use mathlib.Core.Bool.{Bool, true, false, cond}
 use mathlib.Core.List.{List, [], _∷_, _++_}
-use Prim.Native.Nat.{ℕ, zero, suc, _+_, _/_}
+use mathlib.Core.Path.{_≡_}
+use Prim.Native.Nat.{ℕ, zero, suc, _+_, _*_, _/_, _≤_}
 use lib.Chars.{codes}
 use lib.Dec.{ltb}
 use lib.ListN.{drop, length}
+use Rattle.std.specs.Joined.{joined}
 use Rattle.std.specs.Written.{decimal}
 use Rattle.std.specs.declared.option.Option.{Option}
 use Rattle.std.specs.declared.option.Option.the-variants.{Some, None}
@@ -60,3 +62,18 @@ linesFrom (suc most) log offset =
 -- the lines of a log: of the longest log 1,170 records and the end are read
 abbrev pub linesOf : List ℕ → List Line
 linesOf log = cond (ltb 8190 (length log)) (Refused 0 LogTooLong 0 ∷ Records 0 ∷ []) (linesFrom 1171 log 0)
+
+-- the bytes of records, one after another
+abbrev pub logOf : List Record → List ℕ
+logOf = joined records.bytesOf
+
+-- the lines of records that stand after k others in a log
+abbrev pub numbered : ℕ → List Record → List Line
+numbered k [] = Records k ∷ []
+numbered k (x ∷ xs) = Read (k + 1) (7 * k) x ∷ numbered (k + 1) xs
+
+-- What a listing means: up to the longest log, a log lists as the records xs, numbered from 1 at every seventh byte, exactly
+-- when it is their bytes.
+pub record ListsRecords : Type 0 where
+  pub forth : (xs : List Record) → length xs ≤ 1170 → linesOf (logOf xs) ≡ numbered 0 xs
+  pub back : (log : List ℕ) (xs : List Record) → linesOf log ≡ numbered 0 xs → log ≡ logOf xs

@@ -6,7 +6,7 @@ ghost use mathlib.Core.Path.{_≡_};
 ghost use Prim.Native.Nat.{_+_, _<_, _≤_};
 ghost use Rattle.std.specs.Of.Vec.{vec-cap, vec-items, vec-len};
 ghost use Rattle.record.specs.Records.{advance};
-ghost use Rattle.listing.specs.Lines.{goesOn, lineAt, linesFrom, linesOf, met};
+ghost use Rattle.listing.specs.Lines.{ListsRecords, goesOn, lineAt, linesFrom, linesOf, met};
 use crate::line::Fault;
 use crate::line::FaultFromRead;
 use crate::line::Line;
@@ -63,7 +63,8 @@ fn list_records(lines: &mut Vec<Line>, log: &[u8])
 impl Room {
     /// The lines of a log.
     pub fn list(self, log: &[u8]) -> Vec<Line>
-        ensures { λ r. ⌜ vec-items r ≡ linesOf (now (log .entry)) ⌝ }
+        ensures lines { λ r. ⌜ vec-items r ≡ linesOf (now (log .entry)) ⌝ }
+        ensures means { λ _. ⌜ ListsRecords ⌝ }
     {
         let Room { mut lines } = self;
         if log.len() > LONGEST {

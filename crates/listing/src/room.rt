@@ -1,8 +1,10 @@
 //! Memory for a listing, taken before there is one, so that listing a log cannot fail.
 
 ghost use Prim.Native.Nat.{_≤_};
+ghost use mathlib.Core.List.{[]};
 ghost use mathlib.Core.Path.{_≡_};
-ghost use Rattle.std.specs.Of.Vec.{vec-cap, vec-len};
+ghost use Rattle.std.specs.Of.Vec.{vec-cap, vec-items, vec-len};
+ghost use Rattle.std.specs.Vec.{made};
 use crate::line::Line;
 use std::alloc::AllocError;
 use std::alloc::Global;
@@ -20,7 +22,9 @@ pub struct Room {
 
 impl Room {
     /// Takes the memory: the one call that can fail for want of it.
-    pub fn new(heap: Global) -> Result<Room, AllocError> {
+    pub fn new(heap: Global) -> Result<Room, AllocError>
+        ensures { λ r. ⌜ made r (λ room. vec-items (room .lines) ≡ []) ⌝ }
+    {
         let lines = Vec::with_capacity(heap, MOST_LINES)?;
         Ok(Room { lines })
     }

@@ -1,2 +1,3 @@
+pub mod Contradiction
 pub mod RoundTrip
 pub mod Rows

@@ -6,7 +6,7 @@ use native.Mathlib.Omega.{arith}
 use Prim.Native.Nat.{ℕ, _+_, _<_, _≤_, zero, suc}
 use lib.Dec.{eqb, ltb, lit<}
 use lib.ListN.{drop, getD, length, take}
-use Rattle.std.proofs.shelf.Lists.{drop-at, getD-map}
+use Rattle.std.proofs.shelf.Lists.{drop-at, getD-map, nil-from-length}
 use Rattle.std.proofs.shelf.Tests.{and-from, and-parts, cond-false, cond-true, eqb-true, le-ltb, ltb-false, ne-eqb}
 use Rattle.std.specs.declared.option.Option.{Option}
 use Rattle.std.specs.declared.option.Option.the-variants.{Some, None}
@@ -21,8 +21,9 @@ use Rattle.record.specs.declared.kinds.Row.{Row}
 use Rattle.record.specs.declared.kinds.Sort.{Sort}
 use Rattle.record.specs.declared.reading.ReadRefusal.{ReadRefusal}
 use Rattle.record.specs.declared.reading.ReadRefusal.the-variants.{Incomplete, Unmarked, UnknownKind, UnusedFieldSet}
+use Rattle.record.proofs.Contradiction.{contradiction}
 use Rattle.record.specs.Kinds.{allows, counts, kinds, masked, opening, place, rowIn, rowOf, unusedAreZero}
-use Rattle.record.specs.Records.{OneRecordEach, advance, bytesOf, fieldsOf, kindOf, readFields, readOne, recordOf, recordWith}
+use Rattle.record.specs.Records.{OneRecordEach, advance, bytesOf, fieldsIn, fieldsOf, kindOf, marked, readFields, readOne, recordOf, recordWith}
 
 -- The rule of the table, at every row at once: the row is found by its byte and by its kind, it has four fields, and a
 -- record of its kind gives back the kind and the fields that count.
@@ -59,13 +60,9 @@ place-within Reads = lit< tt
 place-within Equals = lit< tt
 place-within Differs = lit< tt
 
--- two constructors are never equal
-apart : {A : Type 0} → _≡_ {A = ℕ} 0 1 → A
-apart e = absurd (omega (arith, e))
-
 -- where a row that was found stands
 row-place : (rows : List Row) (byte : ℕ) (row : Row) → rowIn rows byte ≡ Some row → (k : ℕ) × (k < length rows) × (getD rows k opening ≡ row) × (row .byte ≡ byte)
-row-place [] byte row e = apart (cc)
+row-place [] byte row e = contradiction (cc)
 row-place (r ∷ rows) byte row e = go (eqb (r .byte) byte) refl e (row-place rows byte row)
   where
     go : (t : Bool) → eqb (r .byte) byte ≡ t → cond t (Some r) (rowIn rows byte) ≡ Some row → (rowIn rows byte ≡ Some row → (k : ℕ) × (k < length rows) × (getD rows k opening ≡ row) × (row .byte ≡ byte)) → (k : ℕ) × (k < length (r ∷ rows)) × (getD (r ∷ rows) k opening ≡ row) × (row .byte ≡ byte)
@@ -114,18 +111,18 @@ seven (a ∷ b ∷ c ∷ d ∷ e ∷ f ∷ g ∷ rest) h = refl
 
 -- what the tests of a reader say where it reads a record
 read-tests : (empty short marked : Bool) (answer : Result (Option Record) ReadRefusal) (x : Record) → cond empty (Ok None) (cond short (Err Incomplete) (cond marked answer (Err Unmarked))) ≡ Ok (Some x) → (short ≡ false) × (marked ≡ true) × (answer ≡ Ok (Some x))
-read-tests true short marked answer x e = apart (cc)
-read-tests false true marked answer x e = apart (cc)
+read-tests true short marked answer x e = contradiction (cc)
+read-tests false true marked answer x e = contradiction (cc)
 read-tests false false true answer x e = (refl, refl, e)
-read-tests false false false answer x e = apart (cc)
+read-tests false false false answer x e = contradiction (cc)
 
 read-row : (found : Option Row) (fields : List ℕ) (x : Record) → readFields found fields ≡ Ok (Some x) → (row : Row) × (found ≡ Some row) × (unusedAreZero (row .sorts) fields ≡ true) × (recordOf (row .kind) fields ≡ x)
-read-row None fields x e = apart (cc)
+read-row None fields x e = contradiction (cc)
 read-row (Some row) fields x e = go (unusedAreZero (row .sorts) fields) refl e
   where
     go : (t : Bool) → unusedAreZero (row .sorts) fields ≡ t → cond t (Ok (Some (recordOf (row .kind) fields))) (Err UnusedFieldSet) ≡ Ok (Some x) → (r : Row) × (Some row ≡ Some r) × (unusedAreZero (r .sorts) fields ≡ true) × (recordOf (r .kind) fields ≡ x)
     go true test found = (row, refl, test, cc)
-    go false test found = apart (cc)
+    go false test found = contradiction (cc)
 
 -- the bytes of a record that is made of a row and fields that may stand
 own-bytes : (row : Row) (k : ℕ) → k < length kinds → getD kinds k opening ≡ row → (x y z u : ℕ) → unusedAreZero (row .sorts) (x ∷ y ∷ z ∷ u ∷ []) ≡ true → bytesOf (recordWith (row .kind) x y z u) ≡ 0x4D ∷ 0x54 ∷ row .byte ∷ x ∷ y ∷ z ∷ u ∷ []
@@ -141,12 +138,12 @@ own-bytes row k within is x y z u clear =
 -- a record is read from its own seven bytes alone
 pub only : (bytes : List ℕ) (x : Record) → readOne bytes ≡ Ok (Some x) → (7 ≤ length bytes) × (take 7 bytes ≡ bytesOf x)
 only bytes x e =
-    let tests = read-tests (eqb (length bytes) 0) (ltb (length bytes) 7) (eqb (getD bytes 0 0) 0x4D && eqb (getD bytes 1 0) 0x54) _ x e in
+    let tests = read-tests (eqb (length bytes) 0) (ltb (length bytes) 7) (marked bytes) _ x e in
     let long = ltb-false (length bytes) 7 (tests .0) in
     let mark = and-parts (eqb (getD bytes 0 0) 0x4D) (eqb (getD bytes 1 0) 0x54) (tests .1) in
     let first = eqb-true (getD bytes 0 0) 0x4D (mark .0) in
     let second = eqb-true (getD bytes 1 0) 0x54 (mark .1) in
-    let found = read-row (rowIn kinds (getD bytes 2 0)) (getD bytes 3 0 ∷ getD bytes 4 0 ∷ getD bytes 5 0 ∷ getD bytes 6 0 ∷ []) x (tests .2) in
+    let found = read-row (rowIn kinds (getD bytes 2 0)) (fieldsIn bytes) x (tests .2) in
     let at = row-place kinds (getD bytes 2 0) (found .0) (found .1) in
     let own = own-bytes (found .0) (at .0) (at .1) (at .2) (getD bytes 3 0) (getD bytes 4 0) (getD bytes 5 0) (getD bytes 6 0) (found .2) in
     let same = ap bytesOf (found .3) in
@@ -180,19 +177,43 @@ reads-fields byte (x ∷ y ∷ z ∷ u ∷ []) rest e =
     cond-false _ _ _ (ne-eqb _ _ some) ∙ cond-false _ _ _ (le-ltb _ _ long)
 reads-fields byte (x ∷ y ∷ z ∷ u ∷ w ∷ more) rest e = absurd (omega arith)
 
+-- a record has seven bytes
+four-fields : (x : Record) → length (masked (rowOf (kindOf x) .sorts) (fieldsOf x)) ≡ 4
+four-fields x =
+    let four : length (rowOf (kindOf x) .sorts) ≡ 4 = ap (λ (f : Facts). f .2) (at-row 0 0 0 0 (place (kindOf x)) (place-within (kindOf x))) in
+    masked-length (rowOf (kindOf x) .sorts) (fieldsOf x) (said x .0 ∙ sym four) ∙ four
+
+pub seven-bytes : (x : Record) → length (bytesOf x) ≡ 7
+seven-bytes x = omega (arith, four-fields x)
+
 -- a record is read back from its seven bytes, whatever follows
 pub back : (x : Record) (rest : List ℕ) → readOne (bytesOf x ++ rest) ≡ Ok (Some x)
 back x rest =
     let row : Row = rowOf (kindOf x) in
-    let facts = at-row 0 0 0 0 (place (kindOf x)) (place-within (kindOf x)) in
-    let found : rowIn kinds (row .byte) ≡ Some row = ap (λ (f : Facts). f .0) facts in
-    let four : length (row .sorts) ≡ 4 = ap (λ (f : Facts). f .2) facts in
+    let found : rowIn kinds (row .byte) ≡ Some row = ap (λ (f : Facts). f .0) (at-row 0 0 0 0 (place (kindOf x)) (place-within (kindOf x))) in
     let fields : List ℕ = masked (row .sorts) (fieldsOf x) in
-    let long : length fields ≡ 4 = masked-length (row .sorts) (fieldsOf x) (said x .0 ∙ sym four) ∙ four in
-    reads-fields (row .byte) fields rest long
+    reads-fields (row .byte) fields rest (four-fields x)
     ∙ ap (λ o. readFields o fields) found
     ∙ cond-true _ _ _ (masked-clear (row .sorts) (fieldsOf x))
     ∙ ap (λ r. Ok (Some r)) (said x .1)
+
+-- a reader that answers none is at the end
+no-fields : (found : Option Row) (fields : List ℕ) → readFields found fields ≡ Ok None → ⊥
+no-fields None fields e = contradiction (cc)
+no-fields (Some row) fields e = go (unusedAreZero (row .sorts) fields) e
+  where
+    go : (t : Bool) → cond t (Ok (Some (recordOf (row .kind) fields))) (Err UnusedFieldSet) ≡ Ok None → ⊥
+    go true found = contradiction (cc)
+    go false found = contradiction (cc)
+
+none-tests : (empty short marked : Bool) (answer : Result (Option Record) ReadRefusal) → (answer ≡ Ok None → ⊥) → cond empty (Ok None) (cond short (Err Incomplete) (cond marked answer (Err Unmarked))) ≡ Ok None → empty ≡ true
+none-tests true short marked answer never e = refl
+none-tests false true marked answer never e = contradiction (cc)
+none-tests false false true answer never e = absurd (never e)
+none-tests false false false answer never e = contradiction (cc)
+
+pub none-left : (bytes : List ℕ) → readOne bytes ≡ Ok None → bytes ≡ []
+none-left bytes e = nil-from-length bytes (eqb-true (length bytes) 0 (none-tests (eqb (length bytes) 0) (ltb (length bytes) 7) (marked bytes) _ (no-fields (rowIn kinds (getD bytes 2 0)) (fieldsIn bytes)) e))
 
 pub one-record-each : OneRecordEach
 one-record-each = record {

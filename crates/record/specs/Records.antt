@@ -1,5 +1,5 @@
 -- A record and its seven bytes: the mark, the byte of the kind, four fields.
-use mathlib.Core.Bool.{cond, _&&_}
+use mathlib.Core.Bool.{Bool, cond, _&&_}
 use mathlib.Core.List.{List, [], _∷_, _++_}
 use mathlib.Core.Path.{_≡_}
 use Prim.Native.Nat.{ℕ, _+_}
@@ -68,14 +68,19 @@ abbrev pub readFields : Option Row → List ℕ → Result (Option Record) ReadR
 readFields None fields = Err UnknownKind
 readFields (Some row) fields = cond (unusedAreZero (row .sorts) fields) (Ok (Some (recordOf (row .kind) fields))) (Err UnusedFieldSet)
 
+-- do the bytes begin with the mark?
+abbrev pub marked : List ℕ → Bool
+marked bytes = eqb (getD bytes 0 0) 0x4D && eqb (getD bytes 1 0) 0x54
+
+abbrev pub fieldsIn : List ℕ → List ℕ
+fieldsIn bytes = getD bytes 3 0 ∷ getD bytes 4 0 ∷ getD bytes 5 0 ∷ getD bytes 6 0 ∷ []
+
 -- the record with which the bytes begin; none where there are no bytes
 abbrev pub readOne : List ℕ → Result (Option Record) ReadRefusal
 readOne bytes =
     cond (eqb (length bytes) 0) (Ok None)
     (cond (ltb (length bytes) 7) (Err Incomplete)
-    (cond (eqb (getD bytes 0 0) 0x4D && eqb (getD bytes 1 0) 0x54)
-    (readFields (rowIn kinds (getD bytes 2 0)) (getD bytes 3 0 ∷ getD bytes 4 0 ∷ getD bytes 5 0 ∷ getD bytes 6 0 ∷ []))
-    (Err Unmarked)))
+    (cond (marked bytes) (readFields (rowIn kinds (getD bytes 2 0)) (fieldsIn bytes)) (Err Unmarked)))
 
 -- how far a reader goes on
 abbrev pub advance : Result (Option Record) ReadRefusal → ℕ

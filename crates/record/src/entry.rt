@@ -29,7 +29,7 @@ pub enum Record {
 
 impl Record {
     /// The kind, whose row in the table of kinds says which fields count.
-    pub fn kind(&self) -> Kind
+    pub(crate) fn kind(&self) -> Kind
         ensures { λ r. ⌜ r ≡ kindOf (now (self .entry)) ⌝ }
     {
         match self {
@@ -44,7 +44,7 @@ impl Record {
     }
 
     /// What the record says, field by field, with 0 in the fields that its kind leaves unused.
-    pub fn fields(&self) -> [u8; 4]
+    pub(crate) fn fields(&self) -> [u8; 4]
         ensures { λ r. ⌜ r ≡ fieldsOf (now (self .entry)) ⌝ }
     {
         match *self {
@@ -63,7 +63,7 @@ impl Record {
     }
 
     /// The record of a kind that has these fields; those that the kind leaves unused do not matter.
-    pub fn of(kind: Kind, fields: [u8; 4]) -> Record
+    pub(crate) fn of(kind: Kind, fields: [u8; 4]) -> Record
         ensures { λ r. ⌜ r ≡ recordOf kind fields ⌝ }
     {
         let [x, y, z, u] = fields;

@@ -5,8 +5,8 @@ ghost use mathlib.Core.Path.{_≡_};
 ghost use Rattle.record.specs.Kinds.{allows, kept, kinds, masked, rowIn, rowOf, unusedAreZero};
 
 /// What a field of a record holds.
-#[derive(Clone, Copy, PartialEq, Eq, Debug)]
-pub enum Sort {
+#[derive(Clone, Copy)]
+pub(crate) enum Sort {
     /// how many names there are of a sort
     Count,
     TableName,
@@ -39,8 +39,8 @@ impl Sort {
 }
 
 /// What a record is about, in the order of the rows of the table.
-#[derive(Clone, Copy, PartialEq, Eq, Debug)]
-pub enum Kind {
+#[derive(Clone, Copy)]
+pub(crate) enum Kind {
     Opening,
     SlotPairing,
     ReadingPairing,
@@ -51,18 +51,18 @@ pub enum Kind {
 }
 
 /// A row of the table: a kind, its byte, and what each of the four fields holds.
-#[derive(Clone, Copy, Debug)]
-pub struct Row {
-    pub kind: Kind,
-    pub byte: u8,
-    pub sorts: [Sort; 4],
+#[derive(Clone, Copy)]
+pub(crate) struct Row {
+    pub(crate) kind: Kind,
+    pub(crate) byte: u8,
+    pub(crate) sorts: [Sort; 4],
 }
 
 /// The table of kinds. A byte is also the letter by which a kind is printed.
 ///
 /// A new kind is one row here and in `specs/Kinds.antt`, a variant of `Kind` at the same place, a variant of `Record` (or
 /// of `Statement`), and an arm in each of `Record::kind`, `Record::fields` and `Record::of`, here and in the definitions.
-pub const KINDS: [Row; 7] = [
+const KINDS: [Row; 7] = [
     Row {
         kind: Kind::Opening,
         byte: 0x4F,
@@ -128,7 +128,7 @@ fn row_in(rows: &[Row], byte: u8) -> Option<Row>
 }
 
 /// The row of the kind that this byte stands for.
-pub fn row_of_byte(byte: u8) -> Option<Row>
+pub(crate) fn row_of_byte(byte: u8) -> Option<Row>
     ensures { λ r. ⌜ r ≡ rowIn kinds byte ⌝ }
 {
     row_in(&KINDS, byte)
@@ -136,7 +136,7 @@ pub fn row_of_byte(byte: u8) -> Option<Row>
 
 impl Kind {
     /// The row of this kind.
-    pub fn row(self) -> Row
+    pub(crate) fn row(self) -> Row
         ensures { λ r. ⌜ r ≡ rowOf self ⌝ }
     {
         KINDS[self as usize]
@@ -144,7 +144,7 @@ impl Kind {
 }
 
 /// The fields, with 0 for each that does not count.
-pub fn masked(sorts: [Sort; 4], fields: [u8; 4]) -> [u8; 4]
+pub(crate) fn masked(sorts: [Sort; 4], fields: [u8; 4]) -> [u8; 4]
     ensures { λ r. ⌜ r ≡ masked sorts fields ⌝ }
 {
     let mut bytes = [0; 4];
@@ -155,7 +155,7 @@ pub fn masked(sorts: [Sort; 4], fields: [u8; 4]) -> [u8; 4]
 }
 
 /// Is each field that does not count 0?
-pub fn unused_are_zero(sorts: [Sort; 4], fields: [u8; 4]) -> bool
+pub(crate) fn unused_are_zero(sorts: [Sort; 4], fields: [u8; 4]) -> bool
     ensures { λ r. ⌜ r ≡ unusedAreZero sorts fields ⌝ }
 {
     for k in 0..4 {

@@ -1,7 +1,7 @@
 //! Records: the seven bytes in which a log keeps an opening, a pairing or a statement.
 
 pub mod entry;
-pub mod kinds;
+mod kinds;
 pub mod reader;
 pub mod reading;
 pub mod show;

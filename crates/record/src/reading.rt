@@ -1,17 +1,22 @@
 //! Reading a log, record by record.
 
+ghost use lib.ListN.{drop, take};
 ghost use mathlib.Core.Path.{_≡_};
-ghost use Prim.Native.Nat.{_≤_};
-ghost use Rattle.record.specs.Records.{numberOf, readOne};
+ghost use Prim.Native.Nat.{_+_, _/_};
+ghost use Rattle.std.specs.declared.option.Option.the-variants.{Some};
+ghost use Rattle.std.specs.declared.result.Result.the-variants.{Ok};
+ghost use Rattle.record.specs.declared.entry.Record.{Record};
+ghost use Rattle.record.specs.Records.{OneRecordEach, advance, bytesOf, numberOf, readNext, readOne};
 use crate::entry::Record;
 use crate::kinds::row_of_byte;
 use crate::kinds::unused_are_zero;
+use crate::reader::Reader;
 
 /// How many bytes a record has.
-pub const LENGTH: usize = 7;
+pub(crate) const LENGTH: usize = 7;
 
 /// The two bytes with which every record begins.
-pub const MARK: [u8; 2] = [0x4D, 0x54];
+pub(crate) const MARK: [u8; 2] = [0x4D, 0x54];
 
 /// Why the bytes at hand are no record.
 #[derive(Clone, Copy, PartialEq, Eq, Debug)]
@@ -41,7 +46,7 @@ impl ReadRefusal {
 }
 
 /// The record with which the bytes begin; none where there are no bytes.
-pub fn read(bytes: &[u8]) -> Result<Option<Record>, ReadRefusal>
+fn read(bytes: &[u8]) -> Result<Option<Record>, ReadRefusal>
     ensures { λ r. ⌜ r ≡ readOne (now (bytes .entry)) ⌝ }
 {
     if bytes.is_empty() {
@@ -61,4 +66,35 @@ pub fn read(bytes: &[u8]) -> Result<Option<Record>, ReadRefusal>
         return Err(ReadRefusal::UnusedFieldSet);
     }
     Ok(Some(Record::of(row.kind, fields)))
+}
+
+/// How many bytes an answer of `read` takes.
+fn advance(answer: &Result<Option<Record>, ReadRefusal>) -> usize
+    ensures { λ r. ⌜ r ≡ advance (now (answer .entry)) ⌝ }
+{
+    match answer {
+        Ok(Some(_)) => LENGTH,
+        Ok(None) | Err(_) => 0,
+    }
+}
+
+impl Reader<'_> {
+    /// The number of the next record, counted from 1.
+    pub fn number(&self) -> usize
+        ensures { λ r. ⌜ r ≡ now (self .entry) .offset / 7 + 1 ⌝ }
+    {
+        self.offset / LENGTH + 1
+    }
+
+    /// The next record, or none at the very end of the log. A refused reader stays where it is.
+    pub fn next(&mut self) -> Result<Option<Record>, ReadRefusal>
+        ensures step { λ r. ⌜ (r, now (self .exit) .offset) ≡ readNext (now (self .entry) .log .now) (now (self .entry) .offset) ⌝ }
+        ensures log { λ r. ⌜ now (self .exit) .log .now ≡ now (self .entry) .log .now ⌝ }
+        ensures only { λ r. ⌜ ((x : Record) → r ≡ Ok (Some x) → take 7 (drop (now (self .entry) .offset) (now (self .entry) .log .now)) ≡ bytesOf x) ⌝ }
+        ensures each { λ _. ⌜ OneRecordEach ⌝ }
+    {
+        let answer = read(&self.log[self.offset..]);
+        self.offset += advance(&answer);
+        answer
+    }
 }

@@ -29,7 +29,7 @@ impl WriteRefusal {
 
 impl Record {
     /// The seven bytes of the record.
-    pub fn bytes(&self) -> [u8; 7]
+    pub(crate) fn bytes(&self) -> [u8; 7]
         ensures { λ r. ⌜ r ≡ bytesOf (now (self .entry)) ⌝ }
     {
         let row = self.kind().row();

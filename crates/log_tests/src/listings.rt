@@ -1,0 +1,108 @@
+//! Listings of a few logs, and of the longest.
+
+use listing::line::LineDisplay;
+use listing::room::Room;
+use std::alloc::Global;
+use std::test::*;
+
+/// The lines of a log, each with a line end.
+fn text(heap: Global, log: &[u8]) -> Result<String, Fail> {
+    let mut text = String::new(heap);
+    for line in Room::new(heap)?.list(log) {
+        text.push_str(line.to_string(heap)?.as_str())?;
+        text.push('\n')?;
+    }
+    Ok(text)
+}
+
+/// A log of so many bytes: pairings of slot 1 with slot 2, the last perhaps cut short.
+fn pairings(heap: Global, bytes: usize) -> Result<Vec<u8>, Fail> {
+    let mut log = Vec::new(heap);
+    for k in 0..bytes {
+        log.push(b"MTI\x01\x02\0\0"[k % 7])?;
+    }
+    Ok(log)
+}
+
+#[test]
+fn every_kind_is_listed(rt: LibcRuntime) -> Result<(), Fail> {
+    let heap = rt.alloc();
+    check_eq(
+        text(heap, b"MTO\x03\x02\x01\0")?.as_str(),
+        "1 0 O 3 2 1\nrecords 1\n",
+    )?;
+    check_eq(
+        text(heap, b"MTI\x05\x06\0\0")?.as_str(),
+        "1 0 I 5 6\nrecords 1\n",
+    )?;
+    check_eq(
+        text(heap, b"MTV\x07\x08\0\0")?.as_str(),
+        "1 0 V 7 8\nrecords 1\n",
+    )?;
+    check_eq(
+        text(heap, b"MTW\x01\x02\x03\x04")?.as_str(),
+        "1 0 W 1 2 3 4\nrecords 1\n",
+    )?;
+    check_eq(
+        text(heap, b"MTR\x01\x02\x03\0")?.as_str(),
+        "1 0 R 1 2 3\nrecords 1\n",
+    )?;
+    check_eq(
+        text(heap, b"MTE\xFF\0\0\0")?.as_str(),
+        "1 0 E 255 0\nrecords 1\n",
+    )?;
+    check_eq(
+        text(heap, b"MTD\0\xFF\0\0")?.as_str(),
+        "1 0 D 0 255\nrecords 1\n",
+    )
+}
+
+#[test]
+fn logs_are_listed(rt: LibcRuntime) -> Result<(), Fail> {
+    let heap = rt.alloc();
+    check_eq(text(heap, b"")?.as_str(), "records 0\n")?;
+    check_eq(
+        text(heap, b"MTI\x01\x02\0\0")?.as_str(),
+        "1 0 I 1 2\nrecords 1\n",
+    )?;
+    check_eq(
+        text(heap, b"M")?.as_str(),
+        "1 refused 31 reader 0\nrecords 0\n",
+    )?;
+    check_eq(
+        text(heap, b"MTI\x01\x02\0\0MT")?.as_str(),
+        "1 0 I 1 2\n2 refused 31 reader 7\nrecords 1\n",
+    )?;
+    check_eq(
+        text(heap, b"TMI\x01\x02\0\0")?.as_str(),
+        "1 refused 32 reader 0\nrecords 0\n",
+    )?;
+    check_eq(
+        text(heap, b"MTX\x01\x02\0\0")?.as_str(),
+        "1 refused 33 reader 0\nrecords 0\n",
+    )?;
+    check_eq(
+        text(heap, b"MTV\x01\x02\x01\0")?.as_str(),
+        "1 refused 34 reader 0\nrecords 0\n",
+    )
+}
+
+#[test]
+fn the_longest_log_is_listed(rt: LibcRuntime) -> Result<(), Fail> {
+    let heap = rt.alloc();
+    let log = pairings(heap, 8190)?;
+    let lines = Room::new(heap)?.list(log.as_slice());
+    check(lines.len() == 1171)?;
+    check_eq(lines[1169].to_string(heap)?.as_str(), "1170 8183 I 1 2")?;
+    check_eq(lines[1170].to_string(heap)?.as_str(), "records 1170")
+}
+
+#[test]
+fn a_longer_log_is_refused_whole(rt: LibcRuntime) -> Result<(), Fail> {
+    let heap = rt.alloc();
+    let log = pairings(heap, 8191)?;
+    check_eq(
+        text(heap, log.as_slice())?.as_str(),
+        "0 refused 37 reader 0\nrecords 0\n",
+    )
+}
