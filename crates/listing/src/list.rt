@@ -1,11 +1,13 @@
 //! Listing a log.
 
+ghost use lib.Dec.{ltb};
 ghost use lib.ListN.{length};
 ghost use mathlib.Core.List.{_++_};
 ghost use mathlib.Core.Path.{_≡_};
-ghost use Prim.Native.Nat.{_+_, _<_, _≤_};
+ghost use Prim.Native.Nat.{_+_, _/_, _<_, _≤_};
 ghost use Rattle.std.specs.Of.Vec.{vec-cap, vec-items, vec-len};
 ghost use Rattle.record.specs.Records.{advance};
+ghost use Rattle.listing.specs.declared.line.Line.the-variants.{Records};
 ghost use Rattle.listing.specs.Lines.{ListsRecords, goesOn, lineAt, linesFrom, linesOf, met};
 use crate::line::Fault;
 use crate::line::FaultFromRead;
@@ -48,6 +50,13 @@ fn list_next(lines: &mut Vec<Line>, reader: &mut Reader) -> bool
     }
 }
 
+/// How many records were read.
+fn count_line(reader: &Reader) -> Line
+    ensures { λ r. ⌜ r ≡ Records (now (reader .entry) .offset / 7) ⌝ }
+{
+    Line::Records(reader.number() - 1)
+}
+
 /// Lists the records of a log, and how many were read.
 fn list_records(lines: &mut Vec<Line>, log: &[u8])
     requires short { ⌜ length (now log) ≤ 8190 ⌝ }
@@ -57,7 +66,14 @@ fn list_records(lines: &mut Vec<Line>, log: &[u8])
 {
     let mut reader = Reader::new(log);
     while list_next(lines, &mut reader) {}
-    lines.push_reserved(Line::Records(reader.number() - 1));
+    lines.push_reserved(count_line(&reader));
+}
+
+/// Is the log longer than the longest that is read?
+fn is_too_long(log: &[u8]) -> bool
+    ensures { λ r. ⌜ r ≡ ltb 8190 (length (now (log .entry))) ⌝ }
+{
+    log.len() > LONGEST
 }
 
 impl Room {
@@ -67,7 +83,7 @@ impl Room {
         ensures means { λ _. ⌜ ListsRecords ⌝ }
     {
         let Room { mut lines } = self;
-        if log.len() > LONGEST {
+        if is_too_long(log) {
             lines.push_reserved(Line::Refused {
                 number: 0,
                 fault: Fault::LogTooLong,

@@ -3,6 +3,11 @@
 ghost use lib.ListN.{length};
 ghost use mathlib.Core.Path.{_≡_};
 ghost use Rattle.record.specs.Kinds.{allows, kept, kinds, masked, rowIn, rowOf, unusedAreZero};
+use Sort::Count;
+use Sort::ReadingName;
+use Sort::SlotName;
+use Sort::TableName;
+use Sort::Unused;
 
 /// What a field of a record holds.
 #[derive(Clone, Copy)]
@@ -66,52 +71,37 @@ const KINDS: [Row; 7] = [
     Row {
         kind: Kind::Opening,
         byte: 0x4F,
-        sorts: [Sort::Count, Sort::Count, Sort::Count, Sort::Unused],
+        sorts: [Count, Count, Count, Unused],
     },
     Row {
         kind: Kind::SlotPairing,
         byte: 0x49,
-        sorts: [Sort::SlotName, Sort::SlotName, Sort::Unused, Sort::Unused],
+        sorts: [SlotName, SlotName, Unused, Unused],
     },
     Row {
         kind: Kind::ReadingPairing,
         byte: 0x56,
-        sorts: [
-            Sort::ReadingName,
-            Sort::ReadingName,
-            Sort::Unused,
-            Sort::Unused,
-        ],
+        sorts: [ReadingName, ReadingName, Unused, Unused],
     },
     Row {
         kind: Kind::Writes,
         byte: 0x57,
-        sorts: [
-            Sort::TableName,
-            Sort::TableName,
-            Sort::SlotName,
-            Sort::ReadingName,
-        ],
+        sorts: [TableName, TableName, SlotName, ReadingName],
     },
     Row {
         kind: Kind::Reads,
         byte: 0x52,
-        sorts: [
-            Sort::TableName,
-            Sort::SlotName,
-            Sort::ReadingName,
-            Sort::Unused,
-        ],
+        sorts: [TableName, SlotName, ReadingName, Unused],
     },
     Row {
         kind: Kind::Equals,
         byte: 0x45,
-        sorts: [Sort::TableName, Sort::TableName, Sort::Unused, Sort::Unused],
+        sorts: [TableName, TableName, Unused, Unused],
     },
     Row {
         kind: Kind::Differs,
         byte: 0x44,
-        sorts: [Sort::TableName, Sort::TableName, Sort::Unused, Sort::Unused],
+        sorts: [TableName, TableName, Unused, Unused],
     },
 ];
 

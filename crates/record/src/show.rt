@@ -8,17 +8,14 @@ use std::fmt;
 
 /// A field as it is printed: a space and the number where it counts, else nothing.
 #[derive(Clone, Copy)]
-struct Operand {
-    sort: Sort,
-    field: u8,
-}
+struct Operand(Sort, u8);
 
 impl fmt::Display for Operand as OperandDisplay {
-    ghost shown = { λ x. Some (shownField (x .sort) (x .field)) };
+    ghost shown = { λ x. Some (shownField (x .0) (x .1)) };
 
     fn fmt<W: fmt::Write>(&self, f: &mut fmt::Formatter<W>) -> fmt::Result {
-        let field = self.field;
-        match self.sort {
+        let field = self.1;
+        match self.0 {
             Sort::Unused => Ok(()),
             _ => write!(f, " {field}"),
         }
@@ -33,22 +30,10 @@ pub impl fmt::Display for Record as RecordDisplay {
         let [x, y, z, u] = self.fields();
         let [first, second, third, fourth] = row.sorts;
         let letter = char::from(row.byte);
-        let p = Operand {
-            sort: first,
-            field: x,
-        };
-        let q = Operand {
-            sort: second,
-            field: y,
-        };
-        let r = Operand {
-            sort: third,
-            field: z,
-        };
-        let s = Operand {
-            sort: fourth,
-            field: u,
-        };
+        let p = Operand(first, x);
+        let q = Operand(second, y);
+        let r = Operand(third, z);
+        let s = Operand(fourth, u);
         write!(f, "{letter}{p}{q}{r}{s}")
     }
 }

@@ -47,6 +47,6 @@ returns c =
     let more : 1171 - k ≡ suc (1170 - k) = omega (arith, c .loop .reader .within, ap length (c .loop .inv .0)) in
     let off = sym (c .loop-test .ensures tt .answer) in
     let stays : c .list-next .last .reader .offset ≡ c .loop .reader .offset = omega (arith, c .list-next .ensures .offset, advance-off (met (c .loop .reader)) off) in
-    let count : c .number .result - 1 ≡ c .loop .reader .offset / 7 = omega (arith, c .number .ensures, ap (λ n. n / 7) stays) in
+    let count = c .count-line .ensures ∙ ap (λ n. Records (n / 7)) stays in
     let ends = lines-end (c .loop .reader .log .now) (c .loop .reader .offset) (1170 - k) (vec-items (c .loop .lines)) off in
-    c .push-reserved .ensures .items ∙ (λ i. c .list-next .ensures .listed i ++ (Records (count i) ∷ [])) ∙ ends ∙ ap (λ n. vec-items (c .loop .lines) ++ linesFrom n (c .loop .reader .log .now) (c .loop .reader .offset)) (sym more) ∙ c .loop .inv .2 .3
+    c .push-reserved .ensures .items ∙ (λ i. c .list-next .ensures .listed i ++ (count i ∷ [])) ∙ ends ∙ ap (λ n. vec-items (c .loop .lines) ++ linesFrom n (c .loop .reader .log .now) (c .loop .reader .offset)) (sym more) ∙ c .loop .inv .2 .3
