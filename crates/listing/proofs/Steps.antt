@@ -15,8 +15,8 @@ use Rattle.record.specs.declared.entry.Record.{Record}
 use Rattle.record.specs.declared.reading.ReadRefusal.{ReadRefusal}
 use Rattle.record.specs.Records.{advance, readOne}
 use Rattle.listing.specs.declared.line.Line.{Line}
-use Rattle.listing.specs.declared.line.Line.the-variants.{Records}
-use Rattle.listing.specs.Lines.{goesOn, lineAt, linesFrom}
+use Rattle.listing.specs.Lines.{endLines, goesOn, lineAt, linesFrom, sortsThen}
+use Rattle.listing.specs.Names.{Sorts}
 
 abbrev Answer : Type 0
 Answer = Result (Option Record) ReadRefusal
@@ -32,28 +32,38 @@ advance-off (Ok (Some x)) e = absurd (true≢false e)
 advance-off (Ok None) e = refl
 advance-off (Err refusal) e = refl
 
-one-line : (answer : Answer) (offset : ℕ) → length (lineAt answer offset) ≤ 1
-one-line (Ok (Some x)) offset = omega arith
-one-line (Ok None) offset = omega arith
-one-line (Err refusal) offset = omega arith
+one-line : (sorts : Sorts) (answer : Answer) (offset : ℕ) → length (lineAt sorts answer offset) ≤ 1
+one-line sorts (Ok (Some x)) offset = omega arith
+one-line sorts (Ok None) offset = omega arith
+one-line sorts (Err refusal) offset = omega arith
 
-pub one-more : (before after : List Line) (answer : Answer) (offset : ℕ) → after ≡ before ++ lineAt answer offset → length after ≤ length before + 1
-one-more before after answer offset e = omega (arith, ap length e ∙ length-append before (lineAt answer offset), one-line answer offset)
+pub one-more : (before after : List Line) (sorts : Sorts) (answer : Answer) (offset : ℕ) → after ≡ before ++ lineAt sorts answer offset → length after ≤ length before + 1
+one-more before after sorts answer offset e = omega (arith, ap length e ∙ length-append before (lineAt sorts answer offset), one-line sorts answer offset)
 
 -- the lines from an offset on, where a record is read there and where none is
-module _ (log : List ℕ) (offset most : ℕ) (items : List Line) where
+module _ (log : List ℕ) (offset most : ℕ) (sorts : Sorts) (items : List Line) where
   abbrev here : Answer
   here = readOne (drop offset log)
 
-  turn : linesFrom (suc most) log offset ≡ lineAt here offset ++ cond (goesOn here) (linesFrom most log (offset + 7)) (Records (offset / 7) ∷ [])
+  -- the lines that follow that of what is read there
+  abbrev follow : List Line
+  follow = cond (goesOn here) (linesFrom most log (offset + 7) (sortsThen sorts here)) (endLines (offset / 7) sorts)
+
+  turn : linesFrom (suc most) log offset sorts ≡ lineAt sorts here offset ++ follow
   unfolding linesFrom
   turn = refl
 
-  after : (rest : List Line) → cond (goesOn here) (linesFrom most log (offset + 7)) (Records (offset / 7) ∷ []) ≡ rest → (items ++ lineAt here offset) ++ rest ≡ items ++ linesFrom (suc most) log offset
-  after rest is = append-assoc items _ _ ∙ ap (λ lines. items ++ lines) (sym (turn ∙ ap (λ lines. lineAt here offset ++ lines) is))
+  after : (rest : List Line) → follow ≡ rest → (items ++ lineAt sorts here offset) ++ rest ≡ items ++ linesFrom (suc most) log offset sorts
+  after rest is = append-assoc items _ _ ∙ ap (λ lines. items ++ lines) (sym (turn ∙ ap (λ lines. lineAt sorts here offset ++ lines) is))
 
-  pub lines-more : goesOn here ≡ true → (items ++ lineAt here offset) ++ linesFrom most log (offset + 7) ≡ items ++ linesFrom (suc most) log offset
+  pub lines-more : goesOn here ≡ true → (items ++ lineAt sorts here offset) ++ linesFrom most log (offset + 7) (sortsThen sorts here) ≡ items ++ linesFrom (suc most) log offset sorts
   lines-more on = after _ (cond-true _ _ _ on)
 
-  pub lines-end : goesOn here ≡ false → (items ++ lineAt here offset) ++ (Records (offset / 7) ∷ []) ≡ items ++ linesFrom (suc most) log offset
+  pub lines-end : goesOn here ≡ false → (items ++ lineAt sorts here offset) ++ endLines (offset / 7) sorts ≡ items ++ linesFrom (suc most) log offset sorts
   lines-end off = after _ (cond-false _ _ _ off)
+
+-- a reader that does not go on leaves the names as they were
+pub sorts-off : (sorts : Sorts) (answer : Answer) → goesOn answer ≡ false → sortsThen sorts answer ≡ sorts
+sorts-off sorts (Ok (Some x)) e = absurd (true≢false e)
+sorts-off sorts (Ok None) e = refl
+sorts-off sorts (Err refusal) e = refl

@@ -1,1 +1,3 @@
+pub mod Classes
 pub mod Lines
+pub mod Names

@@ -1,5 +1,9 @@
 //! What a log holds, line by line.
 
+pub mod class;
+mod classing;
+mod hearing;
 pub mod line;
 pub mod list;
+pub mod names;
 pub mod room;

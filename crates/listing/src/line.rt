@@ -4,6 +4,13 @@ ghost use mathlib.Core.Path.{_≡_};
 ghost use Rattle.std.specs.declared.option.Option.the-variants.{Some};
 ghost use Rattle.listing.specs.declared.line.Fault.the-variants.{Reader};
 ghost use Rattle.listing.specs.Lines.{layerOf, numberOf, shownLine};
+use crate::class::Class;
+use crate::class::ClassDebug;
+use crate::class::ClassDisplay;
+use crate::class::ClassPartialEq;
+use arrangement::Refusal;
+use arrangement::RefusalDebug;
+use arrangement::RefusalPartialEq;
 use record::entry::Record;
 use record::entry::RecordDebug;
 use record::entry::RecordPartialEq;
@@ -54,11 +61,12 @@ impl Fault {
 /// One line of a listing.
 #[derive(Clone, Copy, PartialEq, Eq, Debug)]
 pub enum Line {
-    /// A record was read.
+    /// A record was read; what it opens or pairs may be refused.
     Read {
         number: usize,
         offset: usize,
         record: Record,
+        refused: Option<Refusal>,
     },
     /// Nothing was read there, and nothing after it.
     Refused {
@@ -68,6 +76,8 @@ pub enum Line {
     },
     /// So many records were read.
     Records(usize),
+    /// These names are the same.
+    Grouped(Class),
 }
 
 pub impl fmt::Display for Line as LineDisplay {
@@ -79,7 +89,17 @@ pub impl fmt::Display for Line as LineDisplay {
                 number,
                 offset,
                 record,
+                refused: None,
             } => write!(f, "{number} {offset} {record}"),
+            Line::Read {
+                number,
+                offset,
+                refused: Some(refusal),
+                ..
+            } => {
+                let code = refusal.number();
+                write!(f, "{number} refused {code} pairing {offset}")
+            }
             Line::Refused {
                 number,
                 fault,
@@ -90,6 +110,7 @@ pub impl fmt::Display for Line as LineDisplay {
                 write!(f, "{number} refused {code} {layer} {offset}")
             }
             Line::Records(count) => write!(f, "records {count}"),
+            Line::Grouped(class) => write!(f, "{class}"),
         }
     }
 }

@@ -9,15 +9,16 @@ use crate::line::Line;
 use std::alloc::AllocError;
 use std::alloc::Global;
 
-/// How many lines the longest log has at the most: 1,170 records, a refusal and their count.
-pub const MOST_LINES: usize = 1172;
+/// How many lines the longest log has at the most: 1,170 records, a refusal, their count, and the classes of 64 names
+/// of each sort.
+pub const MOST_LINES: usize = 1300;
 
 /// Memory for the lines of one log.
 #[derive(Drop)]
 pub struct Room {
     pub(crate) lines: Vec<Line>,
     ghost unused: { vec-len lines ≡ 0 },
-    ghost enough: { 1172 ≤ vec-cap lines },
+    ghost enough: { 1300 ≤ vec-cap lines },
 }
 
 impl Room {

@@ -1,0 +1,5 @@
+pub mod Laws
+pub mod Lowest
+pub mod Joins
+pub mod Kept
+pub mod Numbers

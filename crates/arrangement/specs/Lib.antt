@@ -1,0 +1,5 @@
+pub mod Meaning
+pub mod Numbers
+pub mod Pairs
+pub mod Refusals
+pub mod Stored

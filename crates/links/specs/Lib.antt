@@ -1,0 +1,3 @@
+pub mod Chains
+pub mod Groups
+pub mod Lists
