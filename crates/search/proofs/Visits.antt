@@ -114,6 +114,7 @@ Honest nameOf distanceOf D es = All (λ e. distanceOf e (at D (nameOf e)) ≡ at
 abbrev pub Across : ℕ → (ℕ → Type 0) → Option (ℕ × ℕ) → Type 0
 Across x P e = Cases (across e x) (Unit {0}) P
 
+-- a link leads from x to y, which is in the table
 abbrev pub Opens : List (ℕ × ℕ) → ℕ → ℕ → Type 0
 Opens links x y = Linked links x y × (y < 128)
 
@@ -149,28 +150,28 @@ module _ {E : Type 0} (made : ℕ → ℕ → E) (nameOf : E → ℕ) (distanceO
     abbrev Onward : Walk E → Walk E → Type 0
     Onward w v = Under v × Lower (w .known) (v .known)
 
-    under-new : (w : Walk E) (y : ℕ) → Under w → Opens links x y → at (w .known) y ≡ 255
+    under-new : (w : Walk E) (y : ℕ) → Under w → Linked links x y → Fresh (w .known) y (n + 1)
         → Under (walk (set (w .known) y (n + 1)) (w .wait ++ (made y (n + 1) ∷ [])))
-    under-new w y (mid, honest) (j, below) new =
+    under-new w y (mid, honest) next-to fresh =
         let D = w .known in
-        let N = set D y (n + 1) in
-        let fresh : Fresh D y (n + 1) = record { size = mid .table .size; below = below; new = new; few = omega arith } in (
-          subst (Mid links goal from x n N) (sym (names-push (w .wait) y (n + 1))) (mid-note links goal from x n D (map nameOf (w .wait)) y mid fresh j),
+        let N = set D y (n + 1) in (
+          subst (Mid links goal from x n N) (sym (names-push (w .wait) y (n + 1)))
+              (mid-note links goal from x n D (map nameOf (w .wait)) y mid fresh next-to),
           all-push (λ e. distanceOf e (at N (nameOf e)) ≡ at N (nameOf e)) (w .wait) (made y (n + 1))
               (honest-kept D N n (n + 1) (w .wait) (set-more D y (n + 1) fresh) (omega arith) (mid .rising) honest)
               (honest-made N y (n + 1) (set-same D y (n + 1) fresh)),
         )
 
+    -- y is noted where it is new, and otherwise it is near already
     under-note : (w : Walk E) (y : ℕ) → Under w → Opens links x y
         → Onward w (noted made y (n + 1) w) × (at (noted made y (n + 1) w .known) y ≤ n + 1)
-    under-note w y (mid, honest) opens =
+    under-note w y (mid, honest) (next-to, below) =
         let D = w .known in
         cond-both (eqb (at D y) 255) (walk (set D y (n + 1)) (w .wait ++ (made y (n + 1) ∷ []))) w
         (λ v. Onward w v × (at (v .known) y ≤ n + 1))
         (λ t.
-        let new = eqb-true (at D y) 255 t in
-        let fresh : Fresh D y (n + 1) = record { size = mid .table .size; below = opens .1; new = new; few = omega arith } in
-        ((under-new w y (mid, honest) opens new, set-lower D y (n + 1) fresh), omega (arith, set-same D y (n + 1) fresh)))
+        let fresh : Fresh D y (n + 1) = record { size = mid .table .size; below = below; new = eqb-true (at D y) 255 t; few = omega arith } in
+        ((under-new w y (mid, honest) next-to fresh, set-lower D y (n + 1) fresh), omega (arith, set-same D y (n + 1) fresh)))
         (λ f.
         let old = eqb-false (at D y) 255 f in
         let bound = mid .table .bytes y in
