@@ -12,7 +12,8 @@ use Rattle.links.specs.Chains.{Joins, joined, lowestJoined}
 use Rattle.links.specs.Groups.{rootOf}
 use Rattle.links.proofs.Reach.{joined-finds, joined-self, joined-through, joined-turn}
 use Rattle.links.proofs.Roots.{lowest-back, lowest-same, root-is}
-use Rattle.arrangement.specs.Meaning.{Lawful, same}
+use Rattle.arrangement.specs.Meaning.{same}
+use Rattle.arrangement.proofs.Laws.{same-answer}
 use Rattle.paired.specs.Calls.{Call, run}
 use Rattle.paired.specs.Pairings.{Pairings, areNames, meaningOf, none}
 
@@ -50,17 +51,12 @@ module _ (p : Pairings) where
     λ r. same-from i j (r .0) (r .1) (joined-finds (p .links) i j .1 (r .2)),
   )
 
-bools : (x y : Bool) → (x ≡ true → y ≡ true) → (y ≡ true → x ≡ true) → x ≡ y
-bools true y f g = sym (f refl)
-bools false true f g = g refl
-bools false false f g = refl
-
 -- equal roots are joined names
 pub roots-joined : (links : List (ℕ × ℕ)) (root : List ℕ) → length root ≡ 128 → ((t : ℕ) → t < 128 → getD root t 0 ≡ lowestJoined links t) → (i j : ℕ) → i < 128 → j < 128 → eqb (rootOf root i) (rootOf root j) ≡ joined links i j
 roots-joined links root long grouped i j a b =
     let p = root-is root long i a ∙ grouped i a in
     let q = root-is root long j b ∙ grouped j b in
-    bools (eqb (rootOf root i) (rootOf root j)) (joined links i j)
+    same-answer (eqb (rootOf root i) (rootOf root j)) (joined links i j)
     (λ h. lowest-back links i j (sym p ∙ eqb-true (rootOf root i) (rootOf root j) h ∙ q))
     (λ h. eq-eqb (rootOf root i) (rootOf root j) (p ∙ lowest-same links i j h ∙ sym q))
 
