@@ -13,7 +13,7 @@ run: target/bin/$(PROGRAM)
 # A program is built only once its proof is checked; rt takes over what has not changed.
 target/bin/$(PROGRAM): crates.txt $(shell find crates -name '*.rt' -o -name '*.antt')
 	@mkdir -p target
-	@echo "proving and building $(PROGRAM) (a minute or two the first time)"
+	@echo "proving and building $(PROGRAM) (a few minutes the first time)"
 	@rt check $(PROGRAM) > target/$(PROGRAM).log 2>&1 || { cat target/$(PROGRAM).log; exit 1; }
 	@touch $@
 
