@@ -3,6 +3,7 @@
 pub mod class;
 mod classing;
 mod hearing;
+pub mod input;
 pub mod line;
 pub mod list;
 pub mod names;

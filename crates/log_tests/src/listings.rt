@@ -1,5 +1,6 @@
 //! Listings of a few logs, and of the longest.
 
+use listing::input::read_log;
 use listing::line::LineDisplay;
 use listing::room::Room;
 use std::alloc::Global;
@@ -126,4 +127,15 @@ fn a_longer_log_is_refused_whole(rt: LibcRuntime) -> Result<(), Fail> {
         text(heap, log.as_slice())?.as_str(),
         "0 refused 37 reader 0\nrecords 0\n",
     )
+}
+
+#[test]
+fn no_more_is_read_than_tells_a_log_that_is_too_long(rt: LibcRuntime) -> Result<(), Fail> {
+    let heap = rt.alloc();
+    let long = equalities(heap, 9000)?;
+    check_eq(read_log(heap, &long.as_slice()[0..0])?.len(), 0)?;
+    check(long.len() == 9000)?;
+    check_eq(read_log(heap, &long.as_slice()[0..8190])?.len(), 8190)?;
+    check_eq(read_log(heap, &long.as_slice()[0..8191])?.len(), 8191)?;
+    check_eq(read_log(heap, long.as_slice())?.len(), 8191)
 }
