@@ -7,3 +7,4 @@ pub mod NumbersLemmas
 pub mod Laws
 pub mod Kept
 pub mod Lowest
+pub mod Joins

@@ -1,6 +1,7 @@
 //! One pair of names, laid over any arrangement.
 
 ghost use Rattle.std.specs.Prelude.{◌≡◌, None};
+ghost use Rattle.arrangement.specs.Joins.{joined_each};
 ghost use Rattle.arrangement.specs.Pairs.{across, joined_meaning, meets, pair_after, pair_answer};
 ghost use Rattle.std.proofs.Common.{rules};
 
@@ -64,6 +65,12 @@ impl<A: Arrangement> Arrangement for Joined<A> {
     ghost meaning = { λ x. joined_meaning (A.Arrangement.meaning x.inner) x.pair };
 
     ghost bounded = { Prim.search rules };
+
+    ghost reflexive = { λ x. (joined_each A.meaning A.bounded A.reflexive A.symmetric A.transitive x.inner x.pair).itself };
+
+    ghost symmetric = { λ x. (joined_each A.meaning A.bounded A.reflexive A.symmetric A.transitive x.inner x.pair).back };
+
+    ghost transitive = { λ x. (joined_each A.meaning A.bounded A.reflexive A.symmetric A.transitive x.inner x.pair).through };
 
     fn count(&self) -> u8 {
         self.inner.count()

@@ -1,5 +1,7 @@
 //! Arrangements: which names name the same thing.
 
+#![tactic(auto)]
+
 ghost use Rattle.std.specs.Prelude.{◌≡◌, ℕ, ◌<◌, ◌≤◌, true};
 ghost use Rattle.arrangement.specs.Meaning.{Meaning, same};
 

@@ -1,5 +1,7 @@
 //! Tests of arrangements: by numbers, by pairings, by a pair laid over another, and with their classes beside them.
 
+#![tactic(auto)]
+
 #[cfg(test)]
 mod assigned;
 #[cfg(test)]

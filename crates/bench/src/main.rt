@@ -2,6 +2,8 @@
 //!
 //! With the word `time` it asks far more often, and prints also how long an answer takes.
 
+#![tactic(auto)]
+
 use anyhow::anyhow;
 use arrangement::{Arrangement, Refusal};
 use paired::store::Paired;

@@ -2,6 +2,8 @@
 //!
 //! With the word `time` it also prints how long an answer takes.
 
+#![tactic(auto)]
+
 mod counting;
 mod lists;
 

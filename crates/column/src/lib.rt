@@ -1,5 +1,7 @@
 //! One column of a list of statements: which tables are joined there, what they read, and whether readings clash.
 
+#![tactic(auto)]
+
 mod acts;
 mod naming;
 mod sight;

@@ -1,5 +1,7 @@
 //! Does a list of statements fit, and which of them are to blame where an offered one does not?
 
+#![tactic(auto)]
+
 mod citation;
 mod cite;
 mod deciding;

@@ -1,5 +1,7 @@
 //! Prints what a log on standard input holds, a line for each record, and what its pairings amount to.
 
+#![tactic(auto)]
+
 use listing::input::read_log;
 use listing::room::Room;
 

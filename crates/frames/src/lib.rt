@@ -1,5 +1,7 @@
 //! The worked frames as a table, and the proof that the definitions of `meaning` answer them as the table expects.
 
+#![tactic(auto)]
+
 mod frame;
 mod table;
 

@@ -1,9 +1,9 @@
 -- Roots, and what one more link does to them.
-use Rattle.std.proofs.Common.{◌≡◌, ℕ, ◌<◌, ◌≤◌, min, max, Bool, true, false, cond, eqb, ◌⊎◌, List, [], ◌∷◌, ◌++◌, length, get_or, sym, refl, ap, ◌∙◌, subst, inl, inr, arith}
+use Rattle.std.proofs.Common.{◌≡◌, ℕ, ◌<◌, ◌≤◌, min, max, true, cond, eqb, ◌⊎◌, List, [], ◌∷◌, ◌++◌, length, get_or, sym, refl, ap, ◌∙◌, subst, inl, inr, arith}
 use Rattle.std.proofs.lemmas.List.{get_or_default, get_or-map}
 use Rattle.std.proofs.lemmas.Bool.{cases_eq, cases_lt, eq-eqb, ne_eqb}
-use Rattle.links.specs.Lists.{Member, least}
-use Rattle.links.specs.Chains.{Chain, none, next, Linked, joined, lowest_joined}
+use Rattle.links.specs.Lists.{Member}
+use Rattle.links.specs.Chains.{Chain, none, next, joined, lowest_joined}
 use Rattle.links.specs.Groups.{Roots, label_for, merged, relabelled, root_of}
 use Rattle.links.proofs.Lists.{member_cases, member_left, member_right}
 use Rattle.links.proofs.Lows.{least-le, low_back, low_in, low_least, low_same}

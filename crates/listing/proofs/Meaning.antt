@@ -1,7 +1,7 @@
 -- What a listing means: a log lists as these records exactly when it is their bytes.
-use Rattle.std.proofs.Common.{◌≡◌, ℕ, zero, suc, ◌+◌, ◌-◌, ◌*◌, ◌/◌, ◌<◌, ◌≤◌, Bool, true, false, cond, ltb, List, [], ◌∷◌, ◌++◌, length, take, drop, Some, None, Ok, Err, Option, Result, sym, refl, ap, ◌∙◌, subst, arith, lit<}
+use Rattle.std.proofs.Common.{◌≡◌, ℕ, zero, suc, ◌+◌, ◌*◌, ◌/◌, ◌<◌, ◌≤◌, Bool, true, false, cond, ltb, List, [], ◌∷◌, ◌++◌, length, drop, Some, None, Ok, Err, Option, Result, sym, refl, ap, ◌∙◌, arith, lit<}
 use native.Mathlib.Nat.{mul-div_cancel_left}
-use Rattle.std.proofs.lemmas.List.{drop_all, drop_at, drop-drop, length-append, length-drop, take-append-drop}
+use Rattle.std.proofs.lemmas.List.{drop_at, drop-drop, length-append, take-append-drop}
 use Rattle.std.proofs.lemmas.Bool.{cond-false, le-ltb}
 use Rattle.record.specs.declared.entry.Record.{Record}
 use Rattle.record.specs.declared.reading.ReadRefusal.{ReadRefusal}
@@ -11,7 +11,7 @@ use Rattle.record.proofs.RoundTrip.{back, none_left, only, seven_bytes}
 use Rattle.listing.specs.declared.line.Fault.TheVariants.{LogTooLong}
 use Rattle.listing.specs.declared.line.Line.{Line}
 use Rattle.listing.specs.declared.line.Line.TheVariants.{Read, Records, Refused}
-use Rattle.listing.specs.Lines.{ListsRecords, end_lines, goes_on, line_at, lines_from, lines_of, log_of, numbered, sorts_then}
+use Rattle.listing.specs.Lines.{ListsRecords, end_lines, goes_on, line_at, lines_from, log_of, numbered, sorts_then}
 use Rattle.listing.specs.Names.{Sorts, nothing, refusal_of, sorts_after}
 
 abbrev Answer : Type 0

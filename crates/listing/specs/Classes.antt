@@ -1,5 +1,5 @@
 -- The classes of two names and more, and how they are printed.
-use Rattle.std.specs.Prelude.{ℕ, ◌+◌, Bool, false, cond, not, ◌&&◌, List, [], ◌∷◌, ◌++◌, map, take, drop, codes, decimal, slice_index_or}
+use Rattle.std.specs.Prelude.{ℕ, ◌+◌, Bool, false, cond, not, ◌&&◌, List, [], ◌++◌, map, take, drop, codes, decimal, slice_index_or}
 use Rattle.std.specs.List.{range_with_len, flat_map}
 use Rattle.links.specs.Lists.{any_of}
 use Rattle.arrangement.specs.Meaning.{Meaning, same}

@@ -1,5 +1,7 @@
 //! What a log holds, line by line.
 
+#![tactic(auto)]
+
 pub mod class;
 mod classing;
 mod hearing;

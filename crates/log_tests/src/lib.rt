@@ -1,5 +1,7 @@
 //! Tests of the records and of the listing of a log.
 
+#![tactic(auto)]
+
 #[cfg(test)]
 mod listings;
 #[cfg(test)]

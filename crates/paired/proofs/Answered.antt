@@ -1,5 +1,5 @@
 -- What `why` answers, where both are names and where not.
-use Rattle.std.proofs.Common.{◌≡◌, ℕ, true, false, eqb, ltb, Some, None, Ok, Err, Option, sym, ap, ◌∙◌}
+use Rattle.std.proofs.Common.{◌≡◌, ℕ, true, false, eqb, ltb, Ok, Err, Option, sym, ap, ◌∙◌}
 use Rattle.std.proofs.lemmas.Bool.{and_parts, cond-false, cond-true}
 use Rattle.arrangement.specs.declared.refusal.Refusal.TheVariants.{NameNotBelowCount}
 use Rattle.search.specs.Entries.{searched}

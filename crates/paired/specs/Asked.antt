@@ -1,9 +1,8 @@
 -- What the questions of a pairing say where none refuses it, and what one pairing more leaves.
-use Rattle.std.specs.Prelude.{◌≡◌, ℕ, ◌+◌, ◌<◌, ◌≤◌, Bool, true, false, cond, List, length, get_or, Some, None, Option, nat_lt, slice_index_or, slice_set, refl}
+use Rattle.std.specs.Prelude.{◌≡◌, ℕ, ◌+◌, ◌<◌, ◌≤◌, Bool, true, false, cond, List, length, get_or, Some, None, nat_lt, slice_index_or, slice_set, refl}
 use Rattle.std.proofs.Common.{inl, inr, sym, ap, subst, ◌∙◌, arith}
 use Rattle.std.proofs.lemmas.List.{get_or-set_other, get_or-set_same, length-take-le}
 use Rattle.std.proofs.lemmas.Bool.{and_parts, cases_eq, cond-false, cond-true, le-ltb, lt-ltb, ltb-true}
-use Rattle.arrangement.specs.declared.refusal.Refusal.{Refusal}
 use Rattle.arrangement.specs.declared.refusal.Refusal.TheVariants.{NameNotBelowCount, TooManyPairings}
 use Rattle.paired.specs.declared.store.Paired.{Paired}
 use Rattle.paired.specs.Held.{pairings_of}

@@ -1,6 +1,6 @@
 -- Pairings after any list of calls.
 use Rattle.std.specs.Prelude.{ℕ, List, [], ◌∷◌}
-use Rattle.paired.specs.Pairings.{Pairings, none, with_count, with_pair}
+use Rattle.paired.specs.Pairings.{Pairings, with_count, with_pair}
 
 -- the calls that may change the pairings
 pub data Call : Type 0 where

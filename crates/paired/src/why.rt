@@ -12,7 +12,7 @@ use crate::store::Paired;
 use arrangement::Refusal;
 use search::entry::{Entry, Reached};
 use search::goal::Goal;
-use search::links::Links;
+use search::linked::Links;
 use search::search::search;
 
 /// The name that is looked for.

@@ -8,7 +8,7 @@ ghost use Rattle.std.proofs.Common.{rules, arith};
 use crate::gathered::Gathered;
 use column::link_at;
 use meaning::Column;
-use search::links::Links;
+use search::linked::Links;
 use standing::Standing;
 
 /// What the standing statements link at the column.

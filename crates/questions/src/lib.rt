@@ -1,5 +1,7 @@
 //! What is asked of the standing statements.
 
+#![tactic(auto)]
+
 mod comparing;
 mod gathered;
 mod gathering;

@@ -1,5 +1,5 @@
 -- A record is read from its own seven bytes, and from no others.
-use Rattle.std.proofs.Common.{◌≡◌, ℕ, zero, suc, ◌+◌, ◌<◌, ◌≤◌, Bool, true, false, cond, ◌&&◌, ◌||◌, eqb, ltb, List, [], ◌∷◌, ◌++◌, map, length, get_or, take, drop, Some, None, Ok, Err, Option, Result, sym, refl, ap, ◌∙◌, subst, arith, lit<}
+use Rattle.std.proofs.Common.{◌≡◌, ℕ, suc, ◌+◌, ◌<◌, ◌≤◌, Bool, true, false, cond, ◌||◌, eqb, ltb, List, [], ◌∷◌, ◌++◌, map, length, get_or, take, drop, Some, None, Ok, Err, Option, Result, sym, refl, ap, ◌∙◌, subst, arith, lit<}
 use Rattle.std.proofs.lemmas.List.{drop_at, get_or-map, nil_from_length}
 use Rattle.std.proofs.lemmas.Bool.{and_from, and_parts, cond-false, cond-true, eqb-true, le-ltb, ltb-false, ne_eqb}
 use Rattle.statement.specs.declared.Statement.TheVariants.{W, R, E, D}
@@ -10,7 +10,7 @@ use Rattle.record.specs.declared.kinds.Kind.TheVariants.{Opening, SlotPairing, R
 use Rattle.record.specs.declared.kinds.Row.{Row}
 use Rattle.record.specs.declared.kinds.Sort.{Sort}
 use Rattle.record.specs.declared.reading.ReadRefusal.{ReadRefusal}
-use Rattle.record.specs.declared.reading.ReadRefusal.TheVariants.{Incomplete, Unmarked, UnknownKind, UnusedFieldSet}
+use Rattle.record.specs.declared.reading.ReadRefusal.TheVariants.{Incomplete, Unmarked, UnusedFieldSet}
 use Rattle.record.proofs.Contradiction.{contradiction}
 use Rattle.record.specs.Kinds.{allows, counts, kinds, masked, opening, place, row_in, row_of, unused_are_zero}
 use Rattle.record.specs.Records.{OneRecordEach, advance, bytes_of, fields_in, fields_of, kind_of, marked, read_fields, read_one, record_of, record_with}

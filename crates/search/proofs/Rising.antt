@@ -1,5 +1,5 @@
 -- Names that wait in the order of their distances.
-use Rattle.std.proofs.Common.{◌≡◌, ℕ, ◌+◌, ◌<◌, ◌≤◌, List, [], ◌∷◌, ◌++◌, sym, subst, inl, inr, arith}
+use Rattle.std.proofs.Common.{◌≡◌, ℕ, ◌<◌, ◌≤◌, List, [], ◌∷◌, ◌++◌, sym, subst, inl, inr, arith}
 use Rattle.links.specs.Lists.{Member}
 use Rattle.search.specs.Tables.{at}
 use Rattle.search.proofs.Tables.{More}

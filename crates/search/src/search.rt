@@ -9,7 +9,7 @@ ghost use Rattle.search.specs.Walks.{noted, visited, walk};
 
 use crate::entry::{Entry, UNKNOWN};
 use crate::goal::Goal;
-use crate::links::Links;
+use crate::linked::Links;
 use crate::queue::Queue;
 
 /// The other end of a link at a name, which may be either end.
@@ -35,7 +35,7 @@ fn note<E: Entry>(name: u8, distance: u8, known: &mut [u8; 128], queue: &mut Que
     requires below { name < 128 }
     requires short { distance < 255 }
     requires fits { unknowns known.old ≤ room queue.old }
-    ensures does { walk known.new (waiting queue.new) ≡ noted made name distance (walk known.old (waiting queue.old)) }
+    ensures does { walk known.new (waiting queue.new) ≡ noted E.made name distance (walk known.old (waiting queue.old)) }
     ensures fits { unknowns known.new ≤ room queue.new }
     ensures keeps { room queue.new + length (waiting queue.new) ≡ room queue.old + length (waiting queue.old) }
 {
@@ -55,7 +55,7 @@ fn visit<L: Links, E: Entry>(
 )
     requires short { distance < 255 }
     requires fits { unknowns known.old ≤ room queue.old }
-    ensures does { walk known.new (waiting queue.new) ≡ visited made name distance (entries links.now) (walk known.old (waiting queue.old)) }
+    ensures does { walk known.new (waiting queue.new) ≡ visited E.made name distance (L.entries links.now) (walk known.old (waiting queue.old)) }
     ensures fits { unknowns known.new ≤ room queue.new }
     ensures keeps { room queue.new + length (waiting queue.new) ≡ room queue.old + length (waiting queue.old) }
 {
@@ -70,8 +70,8 @@ fn visit<L: Links, E: Entry>(
 /// How many links lead from a name to the nearest name that meets the goal, if any do. Names come out of the queue
 /// in the order of their distances, so the first that meets the goal is the nearest.
 pub fn search<L: Links, G: Goal, E: Entry>(links: &L, goal: &G, from: u8) -> Option<u8>
-    ensures is { result ≡ searched (count links.now) (present (entries links.now)) (test goal.now) from }
-    ensures nearest { from < count links.now → Nearest (present (entries links.now)) (test goal.now) from result }
+    ensures is { result ≡ searched (L.count links.now) (present (L.entries links.now)) (G.test goal.now) from }
+    ensures nearest { from < L.count links.now → Nearest (present (L.entries links.now)) (G.test goal.now) from result }
 {
     if from as usize >= links.names() {
         return None;

@@ -1,5 +1,7 @@
 //! The statements that stand: a table of them, whose type keeps what every list of standing statements has to keep.
 
+#![tactic(auto)]
+
 mod asking;
 mod keeping;
 mod names;

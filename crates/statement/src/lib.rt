@@ -1,5 +1,7 @@
 //! Names, and what a frame states of tables.
 
+#![tactic(auto)]
+
 /// A table, by its name.
 #[derive(Clone, Copy, PartialEq, Eq, Debug)]
 pub struct Table(pub u8);

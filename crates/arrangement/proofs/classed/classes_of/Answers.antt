@@ -19,13 +19,17 @@ law g =
     let keeps = g.met.A.Arrangement in
     lawful_each g.A.Arrangement.meaning keeps.bounded keeps.reflexive keeps.symmetric keeps.transitive
 
-pub invariant-of-result : goal.invariant-of-result
-invariant-of-result g c =
+pub invariant_of-result : goal.invariant_of-result
+invariant_of-result g c =
     let a = c.args.a.now in
     let m = g.A.Arrangement.meaning a in
     let e = c.count-count.ensures in
     let stored : (k : ℕ) → k < c.count-count.result → get_or c.loop-i.lowest k 0 ≡ lowest m k = λ k l. c.loop-i.invariant.1 k (omega arith) in
-    (omega (arith, (law g a).small), (down_from m (law g a) _ _ e stored, (root_from m (law g a) _ _ e stored, tt)))
+    record {
+      small = omega (arith, (law g a).small);
+      down = down_from m (law g a) _ _ e stored;
+      root = root_from m (law g a) _ _ e stored;
+    }
 
 pub returns : goal.returns
 returns g c =

@@ -13,7 +13,7 @@ returns-in-Some c links within roots =
     subst (λ o. Roots (links ++ present (o ∷ [])) c.join.new.self.root) c.in-Some.ensures
     (c.join.ensures.joins links below.0 below.1 roots)
 
-pub returns-in-default : goal.returns-in-default
-returns-in-default c links within roots =
-    subst (λ o. Roots (links ++ present (o ∷ [])) c.args.groups.now.root) c.in-default.ensures
+pub returns-in_default : goal.returns-in_default
+returns-in_default c links within roots =
+    subst (λ o. Roots (links ++ present (o ∷ [])) c.args.groups.now.root) c.in_default.ensures
     (subst (λ l. Roots l c.args.groups.now.root) (sym (append-nil links)) roots)

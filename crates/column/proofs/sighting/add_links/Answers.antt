@@ -14,9 +14,9 @@ pub loop-x-preserved : goal.loop-x-preserved
 unfolding links_at
 loop-x-preserved c links readable roots =
     let f = link_at (setting_of c.args.naming.now) c.args.column in
-    subst (λ l. Roots l c.add-link-of.new.groups.root)
+    subst (λ l. Roots l c.add_link_of.new.groups.root)
     (given_more f links c.args.xs.now c.loop-x.x-index _ c.loop-x-test.true)
-    (c.add-link-of.ensures _ (readable _ (member_at c.args.xs.now c.loop-x.x-index _ c.loop-x-test.true))
+    (c.add_link_of.ensures _ (readable _ (member_at c.args.xs.now c.loop-x.x-index _ c.loop-x-test.true))
     (c.loop-x.invariant links readable roots))
 
 pub returns : goal.returns

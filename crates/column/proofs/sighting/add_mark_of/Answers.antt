@@ -18,20 +18,20 @@ returns-in-Some-lowest c links marks within seen =
     let below = mark_below w c.args.x within (t, v) c.args.column (sym c.in-Some.ensures) in
     let low : c.in-Some-lowest.reading ≡ lowest w.readings v =
     some_inj (c.in-Some-lowest.ensures ∙ cond-true _ _ _ (lt-ltb v w.readings.size below.1)) in
-    subst (λ o. Seen w.readings links (marks ++ present (o ∷ [])) c.add-mark.new.self) c.in-Some.ensures
-    (seen-marked w.readings (lawful c.args.naming.now.readings) links marks c.args.sight.now c.add-mark.new.self seen
+    subst (λ o. Seen w.readings links (marks ++ present (o ∷ [])) c.add_mark.new.self) c.in-Some.ensures
+    (seen-marked w.readings (lawful c.args.naming.now.readings) links marks c.args.sight.now c.add_mark.new.self seen
     t v c.in-Some-lowest.reading below.0 below.1 low
-    c.add-mark.ensures.groups c.add-mark.ensures.marks c.add-mark.ensures.clash)
+    c.add_mark.ensures.groups c.add_mark.ensures.marks c.add_mark.ensures.clash)
 
-pub returns-in-default-lowest : goal.returns-in-default-lowest
-returns-in-default-lowest c links marks within seen =
+pub returns-in_default-lowest : goal.returns-in_default-lowest
+returns-in_default-lowest c links marks within seen =
     let w = setting_of c.args.naming.now in
     let v = c.in-Some.v in
     let below = mark_below w c.args.x within (c.in-Some.table, v) c.args.column (sym c.in-Some.ensures) in
-    absurd (none_some (c.in-default-lowest.ensures ∙ cond-true _ _ _ (lt-ltb v w.readings.size below.1)))
+    absurd (none_some (c.in_default-lowest.ensures ∙ cond-true _ _ _ (lt-ltb v w.readings.size below.1)))
 
-pub returns-in-default : goal.returns-in-default
-returns-in-default c links marks within seen =
+pub returns-in_default : goal.returns-in_default
+returns-in_default c links marks within seen =
     let w = setting_of c.args.naming.now in
-    subst (λ o. Seen w.readings links (marks ++ present (o ∷ [])) c.args.sight.now) c.in-default.ensures
+    subst (λ o. Seen w.readings links (marks ++ present (o ∷ [])) c.args.sight.now) c.in_default.ensures
     (subst (λ l. Seen w.readings links l c.args.sight.now) (sym (append-nil marks)) seen)

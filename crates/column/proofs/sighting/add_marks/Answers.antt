@@ -15,9 +15,9 @@ pub loop-x-preserved : goal.loop-x-preserved
 unfolding marks_at
 loop-x-preserved c links marks readable seen =
     let w = setting_of c.args.naming.now in
-    subst (λ l. Seen w.readings links l c.add-mark-of.new.sight)
+    subst (λ l. Seen w.readings links l c.add_mark_of.new.sight)
     (given_more (mark_at w c.args.column) marks c.args.xs.now c.loop-x.x-index _ c.loop-x-test.true)
-    (c.add-mark-of.ensures links _ (readable _ (member_at c.args.xs.now c.loop-x.x-index _ c.loop-x-test.true))
+    (c.add_mark_of.ensures links _ (readable _ (member_at c.args.xs.now c.loop-x.x-index _ c.loop-x-test.true))
     (c.loop-x.invariant links marks readable seen))
 
 pub returns : goal.returns

@@ -19,7 +19,7 @@ returns c readable =
     let kept = readable_kept w x ys zs readable in
     let rest = readable_rest w x ys zs readable in
     let roots =
-    subst (λ l. Roots l c.add-links-3.new.groups.root) (given_three (link_at w k) x ys zs)
-    (c.add-links-3.ensures _ rest (c.add-links-2.ensures _ kept (c.add-links.ensures [] first c.new-groups.ensures))) in
-    subst (λ l. Seen w.readings (links_at w (given x ys zs) k) l c.add-marks-3.new.sight) (given_three (mark_at w k) x ys zs)
-    (c.add-marks-3.ensures _ _ rest (c.add-marks-2.ensures _ _ kept (c.add-marks.ensures _ [] first (c.over-sight.ensures w.readings _ roots))))
+    subst (λ l. Roots l c.add_links-3.new.groups.root) (given_three (link_at w k) x ys zs)
+    (c.add_links-3.ensures _ rest (c.add_links-2.ensures _ kept (c.add_links.ensures [] first c.new-groups.ensures))) in
+    subst (λ l. Seen w.readings (links_at w (given x ys zs) k) l c.add_marks-3.new.sight) (given_three (mark_at w k) x ys zs)
+    (c.add_marks-3.ensures _ _ rest (c.add_marks-2.ensures _ _ kept (c.add_marks.ensures _ [] first (c.over-sight.ensures w.readings _ roots))))

@@ -49,4 +49,4 @@ returns c unfit =
     ∙ ap citation
     (sym
     (blaming_all c.args.naming.now c.args.offered c.args.list.now unfit.readable (take n positions) (take n c.loop-i.kept)
-    c.loop-i.p (c.loop-i.invariant.5 unfit) c.in-default.ensures.turns))
+    c.loop-i.p (c.loop-i.invariant.5 unfit) c.in_default.ensures.turns))

@@ -14,8 +14,8 @@ returns c k l readable =
     let ys = c.args.kept.now in
     let zs = c.args.rest.now in
     let m = w.slots in
-    c.note-classes-2.ensures k l (readable_rest w x ys zs readable)
-    ∙ ap (λ b. b || is_named_in m zs k) (c.note-classes.ensures k l (readable_kept w x ys zs readable))
-    ∙ ap (λ b. (b || is_named_in m ys k) || is_named_in m zs k) (c.note-class.ensures k l (readable_first w x ys zs readable))
+    c.note_classes-2.ensures k l (readable_rest w x ys zs readable)
+    ∙ ap (λ b. b || is_named_in m zs k) (c.note_classes.ensures k l (readable_kept w x ys zs readable))
+    ∙ ap (λ b. (b || is_named_in m ys k) || is_named_in m zs k) (c.note_class.ensures k l (readable_first w x ys zs readable))
     ∙ ap (λ b. ((b || is_named_in m (x ∷ []) k) || is_named_in m ys k) || is_named_in m zs k) (get_or-replicate 64 k false false l)
     ∙ any_three (λ x. leads m k (slot_of x)) x ys zs

@@ -9,7 +9,7 @@ pub returns-then-clashes : goal.returns-then-clashes
 returns-then-clashes c readable =
     let n = c.args.naming.now in
     loud_elsewhere (setting_of n) (lawful n.readings) (given c.args.offered c.args.kept.now c.args.rest.now)
-    c.sight-at-elsewhere.result (c.sight-at-elsewhere.ensures readable) (sym c.if-clashes.ensures)
+    c.sight_at-elsewhere.result (c.sight_at-elsewhere.ensures readable) (sym c.if-clashes.ensures)
 
 pub loop-c-init : goal.loop-c-init
 loop-c-init c = (
@@ -18,7 +18,7 @@ loop-c-init c = (
       let n = c.args.naming.now in
       let xs = given c.args.offered c.args.kept.now c.args.rest.now in
       seen_start (setting_of n) (lawful n.slots) xs (readable_named (setting_of n) xs readable)
-      c.sight-at-elsewhere.result (c.sight-at-elsewhere.ensures readable) (sym c.if-clashes.ensures),
+      c.sight_at-elsewhere.result (c.sight_at-elsewhere.ensures readable) (sym c.if-clashes.ensures),
 )
 
 pub loop-c-preserved-then-not-named-c : goal.loop-c-preserved-then-not-named-c
@@ -28,9 +28,9 @@ loop-c-preserved-then-not-named-c c = (
       let n = c.args.naming.now in
       let xs = given c.args.offered c.args.kept.now c.args.rest.now in
       seen_skip (setting_of n) (lawful n.slots) xs (readable_named (setting_of n) xs readable)
-      c.sight-at-elsewhere.result (c.sight-at-elsewhere.ensures readable) (sym c.if-clashes.ensures)
+      c.sight_at-elsewhere.result (c.sight_at-elsewhere.ensures readable) (sym c.if-clashes.ensures)
       c.loop-c.c c.loop-c.each (c.loop-c.invariant.1 readable) c.loop-c-test.true
-      (sym (c.classes-named-named.ensures c.loop-c.c c.loop-c-test.true readable) ∙ c.if-not-named-c.true),
+      (sym (c.classes_named-named.ensures c.loop-c.c c.loop-c-test.true readable) ∙ c.if-not-named-c.true),
 )
 
 pub returns-then-clashes-2 : goal.returns-then-clashes-2
@@ -38,8 +38,8 @@ returns-then-clashes-2 c readable =
     let n = c.args.naming.now in
     let xs = given c.args.offered c.args.kept.now c.args.rest.now in
     loud_at (setting_of n) (lawful n.slots) (lawful n.readings) xs (readable_named (setting_of n) xs readable) c.loop-c.c
-    (sym (c.classes-named-named.ensures c.loop-c.c c.loop-c-test.true readable) ∙ c.if-not-named-c.false)
-    c.sight-at-sight.result (c.sight-at-sight.ensures readable) (sym c.if-clashes-2.ensures)
+    (sym (c.classes_named-named.ensures c.loop-c.c c.loop-c-test.true readable) ∙ c.if-not-named-c.false)
+    c.sight_at-sight.result (c.sight_at-sight.ensures readable) (sym c.if-clashes-2.ensures)
 
 pub loop-c-preserved : goal.loop-c-preserved
 loop-c-preserved c = (
@@ -48,10 +48,10 @@ loop-c-preserved c = (
       let n = c.args.naming.now in
       let xs = given c.args.offered c.args.kept.now c.args.rest.now in
       seen-set (setting_of n) (lawful n.slots) xs (readable_named (setting_of n) xs readable)
-      c.sight-at-elsewhere.result (c.sight-at-elsewhere.ensures readable) (sym c.if-clashes.ensures)
+      c.sight_at-elsewhere.result (c.sight_at-elsewhere.ensures readable) (sym c.if-clashes.ensures)
       c.loop-c.c c.loop-c.each (c.loop-c.invariant.1 readable) c.loop-c-test.true c.loop-c.invariant.0
-      c.sight-at-sight.result (c.sight-at-sight.ensures readable) (sym c.if-clashes-2.ensures)
-      (sym (c.classes-named-named.ensures c.loop-c.c c.loop-c-test.true readable) ∙ c.if-not-named-c.false),
+      c.sight_at-sight.result (c.sight_at-sight.ensures readable) (sym c.if-clashes-2.ensures)
+      (sym (c.classes_named-named.ensures c.loop-c.c c.loop-c-test.true readable) ∙ c.if-not-named-c.false),
 )
 
 pub returns : goal.returns
@@ -59,5 +59,5 @@ returns c readable =
     let n = c.args.naming.now in
     let xs = given c.args.offered c.args.kept.now c.args.rest.now in
     seen_all (setting_of n) (lawful n.slots) xs (readable_named (setting_of n) xs readable)
-    c.sight-at-elsewhere.result (c.sight-at-elsewhere.ensures readable) (sym c.if-clashes.ensures)
+    c.sight_at-elsewhere.result (c.sight_at-elsewhere.ensures readable) (sym c.if-clashes.ensures)
     _ refl c.loop-c.c (omega arith) (c.loop-c.invariant.1 readable)

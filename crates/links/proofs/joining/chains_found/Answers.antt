@@ -1,5 +1,3 @@
-use Rattle.std.proofs.Common.{◌≡◌}
-use Rattle.links.specs.Chains.{ChainsFound}
 use Rattle.links.proofs.Fewest.{nearest, short}
 use Rattle.links.proofs.Reach.{joined_finds, joined_self, joined_through, joined_turn, within_finds}
 use Rattle.links.proofs.Roots.{lowest_back, lowest-same}

@@ -1,4 +1,4 @@
-use Rattle.std.proofs.Common.{◌≡◌, ◌++◌, get_or, take, drop, set, ap, ◌∙◌, arith}
+use Rattle.std.proofs.Common.{◌≡◌, ◌++◌, get_or, take, set, ap, ◌∙◌, arith}
 use Rattle.std.proofs.lemmas.List.Edits.{map_over_more}
 use Rattle.std.proofs.lemmas.List.{append-nil, drop_all, get_or_default, take_all}
 use Rattle.links.specs.Groups.{label_for, relabelled}
@@ -9,7 +9,7 @@ loop-label-preserved c =
     let i = c.loop-label.label-index in
     let labels = c.loop-label.labels in
     let here = get_or_default labels i 0 (get_or labels i 0) (omega (arith, c.loop-label.auto.labels)) in
-    ap (set labels i) c.label-for.ensures ∙ map_over_more (label_for c.args.old c.args.new) c.args.labels.now labels i (get_or labels i 0) c.loop-label-test.true c.loop-label.invariant here
+    ap (set labels i) c.label_for.ensures ∙ map_over_more (label_for c.args.old c.args.new) c.args.labels.now labels i (get_or labels i 0) c.loop-label-test.true c.loop-label.invariant here
 
 pub returns : goal.returns
 returns c =

@@ -1,4 +1,4 @@
-use Rattle.std.proofs.Common.{◌≡◌, ◌++◌, length, take, drop}
+use Rattle.std.proofs.Common.{◌≡◌, ◌++◌, take, drop}
 use Rattle.links.specs.Groups.{relabelled}
 use Rattle.links.proofs.joining.relabel.Given as goal
 

@@ -1,4 +1,4 @@
-use Rattle.std.proofs.Common.{◌≡◌, ℕ, ◌+◌, List, [], ◌∷◌, ◌++◌, vec_items, sym, refl, ap, ◌∙◌, append_assoc, arith}
+use Rattle.std.proofs.Common.{◌≡◌, ℕ, List, ◌++◌, vec_items, sym, refl, ap, ◌∙◌, append_assoc, arith}
 use Rattle.std.proofs.lemmas.List.{append-nil}
 use Rattle.std.specs.List.{range_with_len, flat_map}
 use Rattle.paired.specs.Held.{pairings_of}
@@ -11,8 +11,8 @@ use Rattle.listing.proofs.classing.list_classes.Goals as goal
 pub loop-name-init : goal.loop-name-init
 loop-name-init c = (sym (append-nil (vec_items c.args.lines.now)), omega arith, refl)
 
-pub list-class-requires : goal.list-class-requires
-list-class-requires c = record {
+pub list_class-requires : goal.list_class-requires
+list_class-requires c = record {
   name = omega (arith, c.args.names.now.few, c.count-name-end.ensures);
   room = omega (arith, c.loop-name.invariant.1, c.loop-name.invariant.2, c.args.names.now.few, c.count-name-end.ensures, c.requires);
 }
@@ -22,8 +22,8 @@ loop-name-preserved c =
     let line : ℕ → List Line = class_line c.args.sort (meaning_of (pairings_of c.args.names.now)) in
     let name = c.loop-name.name in
     let before = vec_items c.args.lines.now in
-    let listed = c.list-class.ensures.listed ∙ ap (λ items. items ++ line name) c.loop-name.invariant.0 ∙ append_assoc before _ _ ∙ ap (λ items. before ++ items) (sym (joined_counting line name)) in
-    (listed, omega (arith, c.list-class.ensures.few, c.loop-name.invariant.1), c.list-class.ensures.room ∙ c.loop-name.invariant.2)
+    let listed = c.list_class.ensures.listed ∙ ap (λ items. items ++ line name) c.loop-name.invariant.0 ∙ append_assoc before _ _ ∙ ap (λ items. before ++ items) (sym (joined_counting line name)) in
+    (listed, omega (arith, c.list_class.ensures.few, c.loop-name.invariant.1), c.list_class.ensures.room ∙ c.loop-name.invariant.2)
 
 pub returns : goal.returns
 unfolding class_lines

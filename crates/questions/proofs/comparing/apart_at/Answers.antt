@@ -4,13 +4,13 @@ use Rattle.questions.specs.Asked.{setting_in}
 use Rattle.questions.proofs.Unlike.{limit_is, no_limit_is}
 use Rattle.questions.proofs.comparing.apart_at.Goals as goal
 
-pub returns-then-are-unlike : goal.returns-then-are-unlike
-returns-then-are-unlike c la lb =
+pub returns-then-are_unlike : goal.returns-then-are_unlike
+returns-then-are_unlike c la lb =
     let s = c.args.standing.now in
-    no_limit_is s c.args.a c.args.b (sym (c.if-are-unlike.ensures la lb (has-elsewhere (setting_in s))))
+    no_limit_is s c.args.a c.args.b (sym (c.if-are_unlike.ensures la lb (has-elsewhere (setting_in s))))
 
 pub returns : goal.returns
 returns c la lb =
     let s = c.args.standing.now in
-    limit_is s c.args.a c.args.b (sym (c.if-are-unlike.ensures la lb (has-elsewhere (setting_in s))))
-    c.unlike-classes-set.result (c.unlike-classes-set.ensures la lb)
+    limit_is s c.args.a c.args.b (sym (c.if-are_unlike.ensures la lb (has-elsewhere (setting_in s))))
+    c.unlike_classes-set.result (c.unlike_classes-set.ensures la lb)

@@ -4,5 +4,5 @@ use Rattle.questions.proofs.comparing.are_unlike.Goals as goal
 
 pub returns : goal.returns
 returns c la lb m =
-    ap not (c.are-alike.ensures
-    ∙ alike_at_lem c.args.standing.now c.args.column c.sight-in.result c.sight-in.ensures c.args.a c.args.b la lb m)
+    ap not (c.are_alike.ensures
+    ∙ alike_at_lem c.args.standing.now c.args.column c.sight_in.result c.sight_in.ensures c.args.a c.args.b la lb m)

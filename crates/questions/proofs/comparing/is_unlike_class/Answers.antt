@@ -10,6 +10,6 @@ pub returns : goal.returns
 returns c la lb lc =
     let s = c.args.standing.now in
     let w = setting_in s in
-    let root = sym (c.if-not-is-lowest.ensures lc) in
-    c.are-unlike.ensures la lb (has_at w c.args.c lc (eqb-true (lowest w.slots c.args.c) c.args.c root))
+    let root = sym (c.if-not-is_lowest.ensures lc) in
+    c.are_unlike.ensures la lb (has_at w c.args.c lc (eqb-true (lowest w.slots c.args.c) c.args.c root))
     ∙ ap (λ b. b && unlike_at s c.args.a c.args.b (at c.args.c)) (sym root)

@@ -17,15 +17,15 @@ loop-c-preserved c =
     let counted = ap (λ (n : Naming). n.slots.count) c.naming.ensures in
     let name : k < s.naming.slots.count = omega (arith, counted, c.loop-c-test.true) in
     let small : k < 64 = omega (arith, name, s.naming.slots.small) in
-    elim c.if-is-unlike-class.branch [
+    elim c.if-is_unlike_class.branch [
       | then-is-unlike-class w ↦
-          let is : c.if-is-unlike-class.set ≡ 2 ^ k + set = w.set-is ∙ with_bit k set c.loop-c.invariant.0 small in (
+          let is : c.if-is_unlike_class.set ≡ 2 ^ k + set = w.set-is ∙ with_bit k set c.loop-c.invariant.0 small in (
             subst (λ n. n < 2 ^ (k + 1)) (sym is) (more_below k set c.loop-c.invariant.0),
-            λ la lb. is ∙ set_more m p k set (sym (w.if-is-unlike-class.ensures la lb name)) (c.loop-c.invariant.1 la lb),
+            λ la lb. is ∙ set_more m p k set (sym (w.if-is_unlike_class.ensures la lb name)) (c.loop-c.invariant.1 la lb),
           )
       | else-is-unlike-class w ↦ (
         subst (λ n. n < 2 ^ (k + 1)) (sym w.set-is) (kept_below k set c.loop-c.invariant.0),
-        λ la lb. w.set-is ∙ set_kept m p k set (sym (w.if-is-unlike-class.ensures la lb name)) (c.loop-c.invariant.1 la lb),
+        λ la lb. w.set-is ∙ set_kept m p k set (sym (w.if-is_unlike_class.ensures la lb name)) (c.loop-c.invariant.1 la lb),
       )
     ]
 

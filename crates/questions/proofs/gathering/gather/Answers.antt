@@ -12,17 +12,17 @@ loop-k-preserved c =
     let s = c.args.standing.now in
     let links = c.loop-k.links in
     let k = c.loop-k.k in
-    let link = c.link-at.result in
+    let link = c.link_at.result in
     let fits = s.short in
     let many = s.list.ok.0 in
     let held = ap length c.statements-list.ensures in (
       length-set links k link ∙ c.loop-k.invariant.0,
       gathered_more (link_at (setting_of c.naming-naming.result.now) c.args.column) c.statements-list.result.now links k _ link
-          c.loop-k-test.true (omega (arith, fits, many, held, c.loop-k-test.true, c.loop-k.invariant.0)) c.loop-k.invariant.1 c.link-at.ensures,
+          c.loop-k-test.true (omega (arith, fits, many, held, c.loop-k-test.true, c.loop-k.invariant.0)) c.loop-k.invariant.1 c.link_at.ensures,
     )
 
-pub invariant-of-result : goal.invariant-of-result
-invariant-of-result c =
+pub invariant_of-result : goal.invariant_of-result
+invariant_of-result c =
     let s = c.args.standing.now in
     let few = s.few in
     let fits = s.short in
@@ -31,13 +31,13 @@ invariant-of-result c =
     let xs = c.statements-list.result.now in
     let all = gathered_all s c.args.column c.naming-naming.result.now xs c.loop-k.links c.loop-k.k
     c.naming-naming.ensures c.statements-list.ensures (omega (arith, c.loop-k.auto.k-end, c.loop-k-test.false)) c.loop-k.invariant.1 in
-    let inside = subst (λ l. all_of (is_inside s.tables) l ≡ true) (sym all) (links_inside s c.args.column) in (
-      omega (arith, few, c.tables.ensures),
-      (
-        omega (arith, fits, many, held),
-        (c.loop-k.invariant.0, (subst (λ n. all_of (is_inside n) (take (length xs) c.loop-k.links) ≡ true) (sym c.tables.ensures) inside, tt)),
-      ),
-    )
+    let inside = subst (λ l. all_of (is_inside s.tables) l ≡ true) (sym all) (links_inside s c.args.column) in
+    record {
+      few = omega (arith, few, c.tables.ensures);
+      fits = omega (arith, fits, many, held);
+      long = c.loop-k.invariant.0;
+      inside = subst (λ n. all_of (is_inside n) (take (length xs) c.loop-k.links) ≡ true) (sym c.tables.ensures) inside;
+    }
 
 pub returns : goal.returns
 returns c = record {

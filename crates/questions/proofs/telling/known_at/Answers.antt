@@ -4,4 +4,4 @@ use Rattle.questions.proofs.telling.known_at.Goals as goal
 
 pub returns : goal.returns
 returns c low =
-    c.reading.ensures ∙ known_is c.args.standing.now c.args.column c.sight-in.result c.sight-in.ensures c.args.table low
+    c.reading.ensures ∙ known_is c.args.standing.now c.args.column c.sight_in.result c.sight_in.ensures c.args.table low

@@ -9,4 +9,4 @@ returns-in-Some c =
     let s = c.args.standing.now in
     let low : c.args.a.0 < s.tables = omega (arith, c.if-a-tables.false, c.tables.ensures) in
     let name = lowest_name (setting_in s).slots c.args.i.0 c.in-Some.c c.in-Some.ensures in
-    c.told-at.ensures low ∙ told_is s c.args.a.0 c.args.i.0 c.in-Some.c low name.0 name.1
+    c.told_at.ensures low ∙ told_is s c.args.a.0 c.args.i.0 c.in-Some.c low name.0 name.1

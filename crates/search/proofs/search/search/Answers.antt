@@ -35,7 +35,7 @@ returns-then-met g c =
     let goal = g.G.Goal.test c.args.goal.now in
     let popped = c.in-Some.ensures in
     let taken = popped_some _ _ _ popped.first popped.rest in
-    let near = turn_found entry.made entry.name_of entry.distance_of met.named met.decreases es taken c.loop-entry.invariant.0 c.loop-entry.invariant.1
+    let near = turn_found entry.made entry.name_of entry.distance_of met.named met.measured es taken c.loop-entry.invariant.0 c.loop-entry.invariant.1
     c.name-name.result c.distance-distance.result c.name-name.ensures c.distance-distance.ensures (sym c.met.ensures ∙ c.if-met.true) in
     record {
       is = nearest-searched (g.L.Links.count links) (present es) goal c.args.from _ (omega arith) near;
@@ -51,7 +51,7 @@ loop-entry-preserved g c =
     let popped = c.in-Some.ensures in
     let taken = popped_some _ _ _ popped.first popped.rest in
     let queue = c.visit.new.queue in
-    let t = turn_next entry.made entry.name_of entry.distance_of met.named met.decreases es taken c.loop-entry.invariant.0 c.loop-entry.invariant.1
+    let t = turn_next entry.made entry.name_of entry.distance_of met.named met.measured es taken c.loop-entry.invariant.0 c.loop-entry.invariant.1
     c.name-name.result c.distance-distance.result c.name-name.ensures c.distance-distance.ensures
     (room queue + length (waiting queue)) c.visit.new.known (waiting queue)
     (omega (arith, c.visit.ensures.keeps, popped.left, ap length taken))
@@ -67,7 +67,7 @@ returns g c =
     let from = c.args.from in
     let queue = c.loop-entry.queue in
     let left = room queue + length (waiting queue) in
-    let empty = popped_none (waiting queue) c.in-default.ensures.first in
+    let empty = popped_none (waiting queue) c.in_default.ensures.first in
     let near = goal_none (present es) goal from left c.loop-entry.known
     (subst (λ W. Top (present es) goal from left c.loop-entry.known (map g.E.Entry.name_of W)) empty c.loop-entry.invariant.0) in
     record {

@@ -1,6 +1,6 @@
 -- The answer, from that of the arrangement below.
 use Rattle.std.proofs.Common.{true, false, ◌∙◌}
-use Rattle.arrangement.proofs.Joins.{joined_or}
+use Rattle.arrangement.specs.Joins.{joined_or}
 use Rattle.arrangement.proofs.joined.JoinedArrangement.same.Goals as goal
 
 pub returns-then-same : goal.returns-then-same

@@ -1,18 +1,19 @@
-use Rattle.std.proofs.Common.{◌≡◌, ℕ, ◌<◌, ◌≤◌, min, max, true, ltb, List, length, get_or, sym, ap, ◌∙◌, subst, arith}
+use Rattle.std.proofs.Common.{◌≡◌, ℕ, ◌<◌, ◌≤◌, min, max, ltb, List, length, get_or, sym, ap, ◌∙◌, subst, arith}
 use Rattle.std.proofs.lemmas.List.{length-map}
 use Rattle.std.proofs.lemmas.Bool.{and_from, cond-true, lt-ltb}
 use Rattle.links.specs.Groups.{Roots, merged, relabelled}
 use Rattle.links.proofs.Roots.{relabelled_down, roots-merged}
 use Rattle.links.proofs.groups.Groups.join.Goals as goal
 
-pub invariant-of-self : goal.invariant-of-self
-invariant-of-self c =
+pub invariant_of-self : goal.invariant_of-self
+invariant_of-self c =
     let s = c.args.self.now in
     let is = c.relabel.ensures in
-    let lower : c.min.result ≤ c.max.result = omega (arith, c.min.ensures, c.max.ensures) in (
-      ap length is ∙ length-map s.root _ ∙ s.long,
-      (subst (λ (root : List ℕ). (t : ℕ) → t < 128 → get_or root t 0 ≤ t) (sym is) (relabelled_down s.root s.long c.max.result c.min.result lower s.down), tt),
-    )
+    let lower : c.min.result ≤ c.max.result = omega (arith, c.min.ensures, c.max.ensures) in
+    record {
+      long = ap length is ∙ length-map s.root _ ∙ s.long;
+      down = subst (λ (root : List ℕ). (t : ℕ) → t < 128 → get_or root t 0 ≤ t) (sym is) (relabelled_down s.root s.long c.max.result c.min.result lower s.down);
+    }
 
 pub returns : goal.returns
 returns c =

@@ -11,8 +11,8 @@ loop-name-preserved c = (
       (let lt : c.loop-name.name < length c.loop-name.root = omega arith in rw get_or-set_same),
 )
 
-pub invariant-of-result : goal.invariant-of-result
-invariant-of-result c = (c.loop-name.invariant.0, (λ t l. omega (arith, c.loop-name.invariant.1 t (omega arith)), tt))
+pub invariant_of-result : goal.invariant_of-result
+invariant_of-result c = record { long = c.loop-name.invariant.0; down = λ t l. omega (arith, c.loop-name.invariant.1 t (omega arith)) }
 
 pub returns : goal.returns
 returns c = record { low = λ t l. c.loop-name.invariant.1 t (omega arith) ∙ alone t }

@@ -6,18 +6,18 @@ use Rattle.listing.specs.declared.line.Line.TheVariants.{Records, Refused}
 use Rattle.listing.proofs.Meaning.{lists_records}
 use Rattle.listing.proofs.room.Room.list.Goals as goal
 
-pub returns-then-is-too-long : goal.returns-then-is-too-long
-returns-then-is-too-long c =
+pub returns-then-is_too_long : goal.returns-then-is_too_long
+returns-then-is_too_long c =
     let none : vec_items c.args.self.lines ≡ [] = nil_from_length _ (omega (arith, c.args.self.lines.ok.0)) in
-    let first = c.push-reserved.ensures.items ∙ ap (λ items. items ++ (Refused 0 LogTooLong 0 ∷ [])) none in
+    let first = c.push_reserved.ensures.items ∙ ap (λ items. items ++ (Refused 0 LogTooLong 0 ∷ [])) none in
     record {
-      lines = c.push-reserved-then-is-too-long.ensures.items ∙ ap (λ items. items ++ (Records 0 ∷ [])) first ∙ sym (cond-true _ _ _ (sym c.if-is-too-long.ensures));
+      lines = c.push_reserved-then-is_too_long.ensures.items ∙ ap (λ items. items ++ (Records 0 ∷ [])) first ∙ sym (cond-true _ _ _ (sym c.if-is_too_long.ensures));
       means = lists_records;
     }
 
-pub returns-else-is-too-long : goal.returns-else-is-too-long
-returns-else-is-too-long c =
+pub returns-else-is_too_long : goal.returns-else-is_too_long
+returns-else-is_too_long c =
     record {
-      lines = c.list-records.ensures ∙ sym (cond-false _ _ _ (sym c.if-is-too-long.ensures));
+      lines = c.list_records.ensures ∙ sym (cond-false _ _ _ (sym c.if-is_too_long.ensures));
       means = lists_records;
     }

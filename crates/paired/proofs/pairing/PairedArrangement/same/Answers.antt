@@ -3,26 +3,26 @@ use Rattle.std.proofs.lemmas.Bool.{and_left, and_parts, ltb-true}
 use Rattle.links.specs.Chains.{joined}
 use Rattle.arrangement.specs.Meaning.{same}
 use Rattle.paired.specs.Held.{pairings_of}
-use Rattle.paired.specs.Pairings.{are_names, meaning_of}
+use Rattle.paired.specs.Pairings.{meaning_of}
 use Rattle.paired.specs.Same.{roots-joined, same_after, same_is}
 use Rattle.paired.proofs.pairing.PairedArrangement.same.Goals as goal
 
-pub returns-then-are-names : goal.returns-then-are-names
-returns-then-are-names c =
+pub returns-then-are_names : goal.returns-then-are_names
+returns-then-are_names c =
     let s = c.args.self.now in
     let i = c.args.i in
     let j = c.args.j in
-    let names = and_parts (ltb i s.names) (ltb j s.names) (sym c.if-are-names.ensures) in
+    let names = and_parts (ltb i s.names) (ltb j s.names) (sym c.if-are_names.ensures) in
     let low : i < 128 = omega (arith, ltb-true i s.names names.0, s.few) in
     let low' : j < 128 = omega (arith, ltb-true j s.names names.1, s.few) in
     let links = (pairings_of s).links in
-    let is = c.are-joined.ensures ∙ roots-joined links s.groups.root s.groups.long s.grouped i j low low' ∙ ap (λ t. t && joined links i j) c.if-are-names.ensures ∙ sym (same_is (pairings_of s) i j) in
-    record { is = is; after = same_after (pairings_of s) i j c.are-joined.result is }
+    let is = c.are_joined.ensures ∙ roots-joined links s.groups.root s.groups.long s.grouped i j low low' ∙ ap (λ t. t && joined links i j) c.if-are_names.ensures ∙ sym (same_is (pairings_of s) i j) in
+    record { is = is; after = same_after (pairings_of s) i j c.are_joined.result is }
 
-pub returns-else-are-names : goal.returns-else-are-names
-returns-else-are-names c =
+pub returns-else-are_names : goal.returns-else-are_names
+returns-else-are_names c =
     let s = c.args.self.now in
     let i = c.args.i in
     let j = c.args.j in
-    let is : c.are-names.result ≡ same (meaning_of (pairings_of s)) i j = c.if-are-names.false ∙ sym (same_is (pairings_of s) i j ∙ and_left _ _ (sym c.if-are-names.ensures)) in
-    record { is = is; after = same_after (pairings_of s) i j c.are-names.result is }
+    let is : c.are_names.result ≡ same (meaning_of (pairings_of s)) i j = c.if-are_names.false ∙ sym (same_is (pairings_of s) i j ∙ and_left _ _ (sym c.if-are_names.ensures)) in
+    record { is = is; after = same_after (pairings_of s) i j c.are_names.result is }

@@ -6,4 +6,4 @@ pub returns : goal.returns
 returns c =
     let s = c.args.self.now in
     offered_answer s.tables s.naming c.args.offered (vec_items s.list) s.stands s.few
-    c.if-not-is-within.ensures c.as-slice.result.now c.as-slice.ensures.value c.fits.result c.fits.ensures
+    c.if-not-is_within.ensures c.as_slice.result.now c.as_slice.ensures.value c.fits.result c.fits.ensures

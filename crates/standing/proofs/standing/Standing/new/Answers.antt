@@ -2,9 +2,12 @@ use Rattle.std.proofs.Common.{length, ap, arith}
 use Rattle.standing.proofs.Stands.{nothing_stands}
 use Rattle.standing.proofs.standing.Standing.new.Goals as goal
 
-pub invariant-of-result : goal.invariant-of-result
-invariant-of-result c =
-    let list = c.into-list.ensures in (
-      rw list.empty (nothing_stands 0 c.args.naming),
-      (omega arith, (list.room, (omega (arith, c.into-list.result.ok.0, ap length list.empty), tt))),
-    )
+pub invariant_of-result : goal.invariant_of-result
+invariant_of-result c =
+    let list = c.into_list.ensures in
+    record {
+      stands = rw list.empty (nothing_stands 0 c.args.naming);
+      few = omega arith;
+      room = list.room;
+      short = omega (arith, c.into_list.result.ok.0, ap length list.empty);
+    }

@@ -15,14 +15,17 @@ returns-then-k-len c =
       statements = sym (omit_beyond k xs beyond);
     }
 
-pub invariant-of-self : goal.invariant-of-self
-invariant-of-self c =
+pub invariant_of-self : goal.invariant_of-self
+invariant_of-self c =
     let s = c.args.self.now in
     let k = c.args.k in
-    let xs = vec_items s.list in (
-      rw (c.remove.ensures.items, removed_omit k xs) (omitted_stands s.tables s.naming k xs s.stands),
-      (s.few, (omega arith, (omega arith, tt))),
-    )
+    let xs = vec_items s.list in
+    record {
+      stands = rw (c.remove.ensures.items, removed_omit k xs) (omitted_stands s.tables s.naming k xs s.stands);
+      few = s.few;
+      room = omega arith;
+      short = omega arith;
+    }
 
 pub returns : goal.returns
 returns c =

@@ -1,9 +1,9 @@
 -- An arrangement with one pair laid over it is lawful.
-use Rattle.std.proofs.Common.{◌≡◌, ℕ, ◌<◌, Bool, true, ◌||◌, ◌⊎◌, Some, None, Option, ap, ◌∙◌, inl, inr}
+use Rattle.std.proofs.Common.{◌≡◌, ℕ, ◌<◌, ◌≤◌, Bool, true, ◌||◌, ◌⊎◌, Some, None, Option, ap, ◌∙◌, inl, inr}
 use Rattle.std.proofs.lemmas.Bool.{and_from, and_parts, false≢true, or_cases, or_left, or_right}
 use Rattle.arrangement.specs.Meaning.{Meaning, Lawful, same}
 use Rattle.arrangement.specs.Pairs.{across, joined_meaning, meets}
-use Rattle.arrangement.specs.Laws.{lawful_from, same_answer, same_from, same_low, same-related}
+use Rattle.arrangement.specs.Laws.{lawful_each, lawful_from, same_answer, same_from, same_low, same-related}
 
 module _ (m : Meaning) where
   abbrev Same : ℕ → ℕ → Type 0
@@ -109,3 +109,13 @@ module _ (m : Meaning) where
 -- the answer, from that of the arrangement below
 pub joined_or : (m : Meaning) (pair : Option (ℕ × ℕ)) (i j : ℕ) (below : Bool) → below ≡ same m i j → (below || across m pair i j) ≡ same (joined_meaning m pair) i j
 joined_or m pair i j below e = ap (λ b. b || across m pair i j) e ∙ joined_same m pair i j
+
+-- the laws of each of many with a pair over it, from the laws of those below
+pub joined_each : {X : Type 0} (meaning : X → Meaning)
+    → ((x : X) → (meaning x).size ≤ 64)
+    → ((x : X) (i : ℕ) → i < (meaning x).size → same (meaning x) i i ≡ true)
+    → ((x : X) (i j : ℕ) → same (meaning x) i j ≡ true → same (meaning x) j i ≡ true)
+    → ((x : X) (i j k : ℕ) → same (meaning x) i j ≡ true → same (meaning x) j k ≡ true → same (meaning x) i k ≡ true)
+    → (x : X) (pair : Option (ℕ × ℕ)) → Lawful (joined_meaning (meaning x) pair)
+joined_each meaning small itself back through x pair =
+    joined-lawful (meaning x) (lawful_each meaning small itself back through x) pair
