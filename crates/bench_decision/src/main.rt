@@ -54,7 +54,8 @@ fn print_answers(
     let links = tell_often(&standing, 128);
     println!(rt;
         "{label}, {count} statements: fit {alone}, with the offered one {both}, {cites} cited after {asked} decisions, told over {links} links"
-    )
+    )?;
+    Ok(())
 }
 
 /// The list as standing statements, as many of them as fit.

@@ -10,7 +10,7 @@ use Rattle.statement.specs.declared.Statement.{Statement}
 use Rattle.statement.specs.declared.Statement.TheVariants.{W, R, E, D}
 use Rattle.meaning.specs.declared.column.Column.{Column}
 use Rattle.meaning.specs.declared.column.Column.TheVariants.{Elsewhere}
-use Rattle.meaning.specs.Columns.{at, clash_at, columns, here, link_at, links_at, mark_at, marks_at}
+use Rattle.meaning.specs.Columns.{at, clash_at, here, link_at, links_at, mark_at, marks_at}
 use Rattle.meaning.specs.Fillings.{Named, Setting, is_within, slot_of}
 use Rattle.meaning.proofs.ColumnList.{has_at, has-elsewhere}
 use Rattle.meaning.proofs.Sound.{slot_named}

@@ -7,7 +7,7 @@ use Rattle.arrangement.specs.Laws.{same_answer}
 use Rattle.statement.specs.declared.Statement.{Statement}
 use Rattle.meaning.specs.declared.column.Column.{Column}
 use Rattle.meaning.specs.declared.column.Column.TheVariants.{Elsewhere}
-use Rattle.meaning.specs.Columns.{alike_at_lem, at, clash_at, columns, difference, differences, links_at, marks_at, parted, test}
+use Rattle.meaning.specs.Columns.{alike_at, clash_at, columns, difference, differences, links_at, marks_at, parted, test}
 use Rattle.meaning.specs.Fillings.{Orderly, Setting}
 use Rattle.meaning.proofs.ColumnList.{column_cases, has-elsewhere}
 use Rattle.column.specs.declared.sight.Sight.{Sight}
@@ -73,16 +73,16 @@ module _ (w : Setting) (laws : Orderly w) (xs : List Statement) (s : Sights) (se
     abbrev seem : Sight → Bool
     seem v = seem_alike v p.0 p.1
 
-    seem_is : (k : Column) (v : Sight) → SeenAt w xs k v → v.clash ≡ false → seem v ≡ alike_at_lem w xs p k
-    unfolding alike_at_lem
+    seem_is : (k : Column) (v : Sight) → SeenAt w xs k v → v.clash ≡ false → seem v ≡ alike_at w xs p k
+    unfolding alike_at
     seem_is k v sees calm = alike_is w.readings laws.readings (links_at w xs k) (marks_at w xs k) v sees calm p.0 p.1 la lb
 
-    all_alike : (seem s.elsewhere && all_of seem s.each) ≡ all_of (alike_at_lem w xs p) (columns w)
+    all_alike : (seem s.elsewhere && all_of seem s.each) ≡ all_of (alike_at w xs p) (columns w)
     all_alike =
-        same_answer (seem s.elsewhere && all_of seem s.each) (all_of (alike_at_lem w xs p) (columns w))
+        same_answer (seem s.elsewhere && all_of seem s.each) (all_of (alike_at w xs p) (columns w))
         (λ h.
         let both = and_parts (seem s.elsewhere) (all_of seem s.each) h in
-        all_from (alike_at_lem w xs p) (columns w) (λ k m.
+        all_from (alike_at w xs p) (columns w) (λ k m.
         let r = sight_of k m in
         sym (seem_is k r.sight r.shows r.calm)
         ∙ elim r.stored [
@@ -91,10 +91,10 @@ module _ (w : Setting) (laws : Orderly w) (xs : List Statement) (s : Sights) (se
         ]))
         (λ h.
         and_from (seem s.elsewhere) (all_of seem s.each)
-        (seem_is Elsewhere s.elsewhere seen.nowhere seen.calm ∙ all_has (alike_at_lem w xs p) (columns w) Elsewhere h (has-elsewhere w))
+        (seem_is Elsewhere s.elsewhere seen.nowhere seen.calm ∙ all_has (alike_at w xs p) (columns w) Elsewhere h (has-elsewhere w))
         (all_places seem s.each (λ i l d.
         let r = seen.only i l d in
-        seem_is r.column (get_or s.each i d) r.seen r.calm ∙ all_has (alike_at_lem w xs p) (columns w) r.column h r.among)))
+        seem_is r.column (get_or s.each i d) r.seen r.calm ∙ all_has (alike_at w xs p) (columns w) r.column h r.among)))
 
     parted_is : seem_parted s p ≡ parted w xs p
     unfolding parted

@@ -14,7 +14,6 @@ use Rattle.frames.specs.declared.frame.Names.{Names}
 use Rattle.frames.specs.declared.frame.Opening.{Opening}
 use Rattle.frames.specs.declared.frame.Question.{Question}
 use Rattle.frames.specs.declared.frame.Question.TheVariants.{Enter, Told, Apart, Filling}
-use Rattle.frames.specs.declared.frame.Standing.{Standing}
 
 -- are these the two of the pair, either way round?
 abbrev pub paired : Option (ℕ × ℕ) → ℕ → ℕ → Bool

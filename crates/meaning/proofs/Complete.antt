@@ -9,7 +9,7 @@ use Rattle.statement.specs.declared.Statement.{Statement}
 use Rattle.statement.specs.declared.Statement.TheVariants.{W, R, E, D}
 use Rattle.meaning.specs.declared.column.Column.{Column}
 use Rattle.meaning.specs.Answers.{column_numbered, filled}
-use Rattle.meaning.specs.Columns.{AlikeAt, ClashAt, alike_at_lem, clash_at, columns, difference, differences, here, link_at, links_at, mark_at, marks_at, parted, test}
+use Rattle.meaning.specs.Columns.{AlikeAt, ClashAt, alike_at, clash_at, columns, difference, differences, here, link_at, links_at, mark_at, marks_at, parted, test}
 use Rattle.meaning.specs.Fillings.{Equal, Filling, Fits, FitsAll, Named, Orderly, Setting, is_named}
 use Rattle.meaning.proofs.Cells.{cell-alike, joined-cell, mark_cell}
 use Rattle.meaning.proofs.ClassNumbers.{number_of, numbered_in, numbered_shows, slots-numbered}
@@ -54,13 +54,13 @@ module _ (w : Setting) (laws : Orderly w) (xs : List Statement) (named : Named w
 
   -- tables that are to differ are not alike at some column
   unlike : (p : ℕ × ℕ) → Member p (differences xs) → (k : Column) × Member k (columns w) × (AlikeAt w xs p k → ⊥)
-  unfolding test parted alike_at_lem
+  unfolding test parted alike_at
   unlike p m =
       let all = (and_parts (all_of (λ k. not (clash_at w xs k)) (columns w)) (all_of (parted w xs) (differences xs)) passes).1 in
-      let some = not-true (all_of (alike_at_lem w xs p) (columns w)) (all_has (parted w xs) (differences xs) p all m) in
-      let r = all_fails (alike_at_lem w xs p) (columns w) some in
+      let some = not-true (all_of (alike_at w xs p) (columns w)) (all_has (parted w xs) (differences xs) p all m) in
+      let r = all_fails (alike_at w xs p) (columns w) some in
       let k = r.0 in
-      (k, r.1, λ a. both_ways (alike_at_lem w xs p k) r.2 ((alike_means w.readings (links_at w xs k) (marks_at w xs k) p.0 p.1).1 a))
+      (k, r.1, λ a. both_ways (alike_at w xs p k) r.2 ((alike_means w.readings (links_at w xs k) (marks_at w xs k) p.0 p.1).1 a))
 
   module _ (tables : ℕ) where
     pub fitting : (x : Statement) → Member x xs → Fits (filled w tables xs) x

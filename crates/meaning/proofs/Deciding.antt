@@ -5,7 +5,7 @@ use Rattle.links.specs.Lists.{all_of}
 use Rattle.links.proofs.Lists.{all_fails, all_has}
 use Rattle.statement.specs.declared.Statement.{Statement}
 use Rattle.meaning.specs.Answers.{filled}
-use Rattle.meaning.specs.Columns.{AlikeThroughout, SomeClash, alike_at_lem, clash_at, columns, differences, links_at, marks_at, parted, test}
+use Rattle.meaning.specs.Columns.{AlikeThroughout, SomeClash, alike_at, clash_at, columns, differences, links_at, marks_at, parted, test}
 use Rattle.meaning.specs.Fillings.{Fillable, Named, Orderly, Setting}
 use Rattle.meaning.specs.Theorems.{ColumnsDecide, Decided}
 use Rattle.meaning.proofs.Complete.{filled-fits}
@@ -14,7 +14,7 @@ use Rattle.meaning.proofs.Sound.{no_clash, not_throughout}
 
 -- a test that fails names the reason
 fails_why : (w : Setting) (xs : List Statement) → test w xs ≡ false → SomeClash w xs ⊎ AlikeThroughout w xs
-unfolding test clash_at parted alike_at_lem
+unfolding test clash_at parted alike_at
 fails_why w xs h =
     elim (and_cases (all_of (λ k. not (clash_at w xs k)) (columns w)) (all_of (parted w xs) (differences xs)) h) [
       | inl e ↦
@@ -27,11 +27,11 @@ fails_why w xs h =
       | inr e ↦
           let r = all_fails (parted w xs) (differences xs) e in
           let p = r.0 in
-          let all = not-false (all_of (alike_at_lem w xs p) (columns w)) r.2 in
+          let all = not-false (all_of (alike_at w xs p) (columns w)) r.2 in
           inr (record {
             tables = p;
             differ = r.1;
-            alike = λ k m. (alike_means w.readings (links_at w xs k) (marks_at w xs k) p.0 p.1).0 (all_has (alike_at_lem w xs p) (columns w) k all m);
+            alike = λ k m. (alike_means w.readings (links_at w xs k) (marks_at w xs k) p.0 p.1).0 (all_has (alike_at w xs p) (columns w) k all m);
           })
     ]
 

@@ -11,7 +11,7 @@ use Rattle.meaning.specs.declared.apart.Apart.TheVariants.{NoLimit, Limit}
 use Rattle.meaning.specs.declared.column.Column.{Column}
 use Rattle.meaning.specs.declared.column.Column.TheVariants.{At, Elsewhere}
 use Rattle.meaning.specs.Answers.{apart, bits_of, classes_below, column_numbered, filled, unlike_columns}
-use Rattle.meaning.specs.Columns.{AlikeAt, alike_at_lem, at, columns, columns_below, links_at, marks_at}
+use Rattle.meaning.specs.Columns.{AlikeAt, alike_at, at, columns, columns_below, links_at, marks_at}
 use Rattle.meaning.specs.Fillings.{Fillable, Filling, FitsAll, Named, Orderly, Setting}
 use Rattle.meaning.specs.Theorems.{ApartIsGreatest, CanDiffer, Distinct, Limits}
 use Rattle.meaning.proofs.Cells.{cell-alike}
@@ -148,24 +148,24 @@ count_of {s} {t} {c} {d} e = cc
 
 module _ (w : Setting) (laws : Orderly w) (xs : List Statement) (named : Named w xs) (some : Fillable w xs) (a b : ℕ) where
   abbrev unlike : Column → Bool
-  unlike k = not (alike_at_lem w xs (a, b) k)
+  unlike k = not (alike_at w xs (a, b) k)
 
-  alike_at_lem : (k : Column) → alike_at_lem w xs (a, b) k ≡ true → AlikeAt w xs (a, b) k
-  unfolding alike_at_lem
+  alike_at_lem : (k : Column) → alike_at w xs (a, b) k ≡ true → AlikeAt w xs (a, b) k
+  unfolding alike_at
   alike_at_lem k h = (alike_means w.readings (links_at w xs k) (marks_at w xs k) a b).0 h
 
   -- the filling that is built has different numbers wherever the tables are not alike
-  filled-unlike : (n : ℕ) → alike_at_lem w xs (a, b) (column_numbered w n) ≡ false → ¬ ((filled w 0 xs).holds a n ≡ (filled w 0 xs).holds b n)
-  unfolding filled alike_at_lem
+  filled-unlike : (n : ℕ) → alike_at w xs (a, b) (column_numbered w n) ≡ false → ¬ ((filled w 0 xs).holds a n ≡ (filled w 0 xs).holds b n)
+  unfolding filled alike_at
   filled-unlike n h e =
       let k = column_numbered w n in
-      both_ways (alike_at_lem w xs (a, b) k) h
+      both_ways (alike_at w xs (a, b) k) h
       ((alike_means w.readings (links_at w xs k) (marks_at w xs k) a b).1 (cell-alike w laws xs named k 0 a b e))
 
   fits : FitsAll w xs (filled w 0 xs)
   fits = filled-fits w laws xs named (fillable_passes w laws xs named some) 0
 
-  module _ (limit : alike_at_lem w xs (a, b) Elsewhere ≡ true) where
+  module _ (limit : alike_at w xs (a, b) Elsewhere ≡ true) where
     attains : CanDiffer w xs a b (length (unlike_columns w xs (a, b)))
     unfolding columns
     attains = (
@@ -174,7 +174,7 @@ module _ (w : Setting) (laws : Orderly w) (xs : List Statement) (named : Named w
       (
         map (number_of S) (unlike_columns w xs (a, b)),
         record {
-          distinct = (kept_apart S unlike (not_from_true (alike_at_lem w xs (a, b) Elsewhere) limit) S.size).0;
+          distinct = (kept_apart S unlike (not_from_true (alike_at w xs (a, b) Elsewhere) limit) S.size).0;
           differ = λ n m. let r = map-has (number_of S) (unlike_columns w xs (a, b)) n m in differs n r.0 r.1 r.2;
         },
         length-map (unlike_columns w xs (a, b)) (number_of S),
@@ -188,14 +188,14 @@ module _ (w : Setting) (laws : Orderly w) (xs : List Statement) (named : Named w
             → ¬ ((filled w 0 xs).holds a n ≡ (filled w 0 xs).holds b n)
         differs n k m e =
             let r = kept_from unlike (columns w) k m in
-            let parts = not-true (alike_at_lem w xs (a, b) k) r.1 in
+            let parts = not-true (alike_at w xs (a, b) k) r.1 in
             elim (column_cases w k r.0) [
-              | inl q ↦ absurd (both_ways (alike_at_lem w xs (a, b) k) parts (subst (λ k. alike_at_lem w xs (a, b) k ≡ true) q limit))
+              | inl q ↦ absurd (both_ways (alike_at w xs (a, b) k) parts (subst (λ k. alike_at w xs (a, b) k ≡ true) q limit))
               | inr q ↦
                   let c = q.0 in
                   let same : column_numbered w n ≡ k =
                   ap (column_numbered w) (sym e ∙ ap (number_of w.slots) (sym q.3)) ∙ numbered_class w laws.slots c q.1 q.2 ∙ q.3 in
-                  filled-unlike n (subst (λ k. alike_at_lem w xs (a, b) k ≡ false) (sym same) parts)
+                  filled-unlike n (subst (λ k. alike_at w xs (a, b) k ≡ false) (sym same) parts)
             ]
 
     -- of each slot number at which a filling differs the class is one at which the tables are not alike
@@ -217,20 +217,20 @@ module _ (w : Setting) (laws : Orderly w) (xs : List Statement) (named : Named w
         class_of f fit n ne =
             let r = some_column w laws.slots xs f fit n in
             let k = r.0 in
-            let parts : alike_at_lem w xs (a, b) k ≡ false = elim (cases_Bool (alike_at_lem w xs (a, b) k)) [
+            let parts : alike_at w xs (a, b) k ≡ false = elim (cases_Bool (alike_at w xs (a, b) k)) [
               | inl yes' ↦ absurd (ne (alike-holds w xs named f fit k n r.2 a b (alike_at_lem k yes')))
               | inr parts ↦ parts
             ] in
-            let m = kept_has unlike (columns w) k r.1 (not_from_false (alike_at_lem w xs (a, b) k) parts) in
+            let m = kept_has unlike (columns w) k r.1 (not_from_false (alike_at w xs (a, b) k) parts) in
             elim (column_cases w k r.1) [
-              | inl q ↦ absurd (both_ways (alike_at_lem w xs (a, b) k) parts (subst (λ k. alike_at_lem w xs (a, b) k ≡ true) q limit))
+              | inl q ↦ absurd (both_ways (alike_at w xs (a, b) k) parts (subst (λ k. alike_at w xs (a, b) k ≡ true) q limit))
               | inr q ↦
                   let there : Shows w f (at q.0) n = subst (λ k. Shows w f k n) (sym q.3) r.2 in
                   (k, m, (q.0, q.3, (there q.0 q.1).0 (laws.slots.itself q.0 q.1)))
             ]
 
   -- elsewhere there are slot numbers without end
-  endless : alike_at_lem w xs (a, b) Elsewhere ≡ false → (n : ℕ) → CanDiffer w xs a b n
+  endless : alike_at w xs (a, b) Elsewhere ≡ false → (n : ℕ) → CanDiffer w xs a b n
   endless parts n = (
     filled w 0 xs,
     fits,
@@ -239,7 +239,7 @@ module _ (w : Setting) (laws : Orderly w) (xs : List Statement) (named : Named w
       record {
         distinct = counting_distinct from n;
         differ = λ x m. filled-unlike x
-            (subst (λ k. alike_at_lem w xs (a, b) k ≡ false) (sym (numbered_beyond w laws.slots x (counting_above from n x m))) parts);
+            (subst (λ k. alike_at w xs (a, b) k ≡ false) (sym (numbered_beyond w laws.slots x (counting_above from n x m))) parts);
       },
       length-range_with_len from n,
     ),
@@ -248,11 +248,11 @@ module _ (w : Setting) (laws : Orderly w) (xs : List Statement) (named : Named w
       from : ℕ
       from = classes_below w.slots w.slots.size
 
-  limits_alike : alike_at_lem w xs (a, b) Elsewhere ≡ true → Limits w xs a b (apart w xs a b)
+  limits_alike : alike_at w xs (a, b) Elsewhere ≡ true → Limits w xs a b (apart w xs a b)
   unfolding apart
   limits_alike yes' =
       let columns = unlike_columns w xs (a, b) in
-      let is : apart w xs a b ≡ Limit (bits_of columns) (length columns) = cond-true (alike_at_lem w xs (a, b) Elsewhere) _ NoLimit yes' in
+      let is : apart w xs a b ≡ Limit (bits_of columns) (length columns) = cond-true (alike_at w xs (a, b) Elsewhere) _ NoLimit yes' in
       record {
         attained = λ set count e. subst (CanDiffer w xs a b) (count_of (sym is ∙ e)) (attains yes');
         greatest = λ set count e n can. subst (λ (c : ℕ). n ≤ c) (count_of (sym is ∙ e)) (exceeds_none yes' n can);
@@ -262,10 +262,10 @@ module _ (w : Setting) (laws : Orderly w) (xs : List Statement) (named : Named w
         );
       }
 
-  limits_unlike : alike_at_lem w xs (a, b) Elsewhere ≡ false → Limits w xs a b (apart w xs a b)
+  limits_unlike : alike_at w xs (a, b) Elsewhere ≡ false → Limits w xs a b (apart w xs a b)
   unfolding apart
   limits_unlike parts =
-      let is : apart w xs a b ≡ NoLimit = cond-false (alike_at_lem w xs (a, b) Elsewhere) _ NoLimit parts in
+      let is : apart w xs a b ≡ NoLimit = cond-false (alike_at w xs (a, b) Elsewhere) _ NoLimit parts in
       record {
         attained = λ set count e. endless parts count;
         greatest = λ set count e. absurd (limited (sym e ∙ is));
@@ -274,7 +274,7 @@ module _ (w : Setting) (laws : Orderly w) (xs : List Statement) (named : Named w
 
 pub apart_is_greatest : ApartIsGreatest
 apart_is_greatest w laws xs named some a b =
-    elim (cases_Bool (alike_at_lem w xs (a, b) Elsewhere)) [
+    elim (cases_Bool (alike_at w xs (a, b) Elsewhere)) [
       | inl yes' ↦ limits_alike w laws xs named some a b yes'
       | inr parts ↦ limits_unlike w laws xs named some a b parts
     ]

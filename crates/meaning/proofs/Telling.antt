@@ -1,7 +1,7 @@
 -- What is told is what every filling that fits says.
 use Rattle.std.proofs.Common.{◌≡◌, ℕ, ◌<◌, true, eqb, List, Some, None, Option, sym, refl, ap, ◌∙◌, subst, inl, inr, arith}
 use Rattle.std.proofs.lemmas.Bool.{eq-eqb}
-use Rattle.links.specs.Chains.{Nearest, fewest, joined}
+use Rattle.links.specs.Chains.{Nearest, joined}
 use Rattle.links.specs.Lists.{Member}
 use Rattle.links.proofs.Fewest.{fewest_some, nearest}
 use Rattle.links.proofs.Lists.{any_from}

@@ -10,7 +10,7 @@ use Rattle.meaning.specs.declared.apart.Apart.{Apart}
 use Rattle.meaning.specs.declared.apart.Apart.TheVariants.{NoLimit, Limit}
 use Rattle.meaning.specs.declared.column.Column.{Column}
 use Rattle.meaning.specs.declared.column.Column.TheVariants.{At, Elsewhere}
-use Rattle.meaning.specs.Columns.{alike_at_lem, at, columns, links_at, marks_at, test}
+use Rattle.meaning.specs.Columns.{alike_at, at, columns, links_at, marks_at, test}
 use Rattle.meaning.specs.Fillings.{Filling, Setting}
 
 -- What is known of a table at a column.
@@ -57,7 +57,7 @@ told w xs a i = reading_and_distance (known w xs (column_of w i) a) (distance w 
 
 -- the columns at which the tables are not alike
 abbrev pub unlike_columns : Setting → List Statement → ℕ × ℕ → List Column
-unlike_columns w xs tables = filter (λ k. not (alike_at_lem w xs tables k)) (columns w)
+unlike_columns w xs tables = filter (λ k. not (alike_at w xs tables k)) (columns w)
 
 -- bit c for the slot class whose lowest name is c
 abbrev pub bits_of : List Column → ℕ
@@ -68,7 +68,7 @@ bits_of (Elsewhere ∷ ks) = bits_of ks
 unfoldable pub apart : Setting → List Statement → ℕ → ℕ → Apart
 apart w xs a b =
     let unlike = unlike_columns w xs (a, b) in
-    cond (alike_at_lem w xs (a, b) Elsewhere) (Limit (bits_of unlike) (length unlike)) NoLimit
+    cond (alike_at w xs (a, b) Elsewhere) (Limit (bits_of unlike) (length unlike)) NoLimit
 
 -- The filling.
 

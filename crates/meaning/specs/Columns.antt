@@ -110,12 +110,12 @@ alike m links marks a b =
 unfoldable pub clash_at : Setting → List Statement → Column → Bool
 clash_at w xs k = clash w.readings (links_at w xs k) (marks_at w xs k)
 
-unfoldable pub alike_at_lem : Setting → List Statement → ℕ × ℕ → Column → Bool
-alike_at_lem w xs tables k = alike w.readings (links_at w xs k) (marks_at w xs k) tables.0 tables.1
+unfoldable pub alike_at : Setting → List Statement → ℕ × ℕ → Column → Bool
+alike_at w xs tables k = alike w.readings (links_at w xs k) (marks_at w xs k) tables.0 tables.1
 
 -- are two tables not alike at some column?
 unfoldable pub parted : Setting → List Statement → ℕ × ℕ → Bool
-parted w xs tables = not (all_of (alike_at_lem w xs tables) (columns w))
+parted w xs tables = not (all_of (alike_at w xs tables) (columns w))
 
 -- no column clashes, and tables that are to differ are not alike at some column
 unfoldable pub test : Setting → List Statement → Bool

@@ -3,7 +3,7 @@ use Rattle.std.specs.Prelude.{◌≡◌, ℕ, ◌<◌, ◌≤◌, List, [], ◌�
 use Rattle.std.proofs.Common.{sym, ap, ◌∙◌, arith}
 use Rattle.std.proofs.ByRecursion.{All-from_get_or, All-map}
 use Rattle.std.proofs.lemmas.List.{get_or-map, get_or_past, get_or-take, length-map}
-use Rattle.std.specs.List.{AllByRecursion as All}
+use Rattle.std.specs.List.{AllByRecursion}
 use Rattle.search.specs.Entries.{Inside, present}
 use Rattle.paired.specs.declared.store.Paired.{Paired}
 use Rattle.paired.specs.Held.{entries_of, pairings_of}
@@ -21,7 +21,7 @@ module _ (x : Paired) (k : ℕ) where
   pub entry_past : x.len ≤ k → None ≡ slice_index_or (entries_of x) k None
   entry_past past = sym (get_or_past (entries_of x) k None (omega (arith, entries_length x)))
 
-pub entries_inside : (x : Paired) → All (Inside x.names) (entries_of x)
+pub entries_inside : (x : Paired) → AllByRecursion (Inside x.names) (entries_of x)
 entries_inside x =
     All-map (Inside x.names) (λ p. Some p) (pairings_of x).links
     (All-from_get_or (λ p. (p.0 < x.names) × (p.1 < x.names)) (pairings_of x).links (0, 0)

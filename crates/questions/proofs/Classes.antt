@@ -1,8 +1,8 @@
 -- Slot classes as bits: of those that pass a test a bit for the lowest name of each.
-use Rattle.std.proofs.Common.{◌≡◌, ℕ, zero, suc, ◌+◌, ◌*◌, ◌%◌, ◌^◌, ◌<◌, ◌≤◌, Bool, true, false, cond, ◌&&◌, eqb, List, [], ◌∷◌, length, filter, sym, refl, ap, ◌∙◌, subst, one-mul, pow-suc, add-one, arith}
+use Rattle.std.proofs.Common.{◌≡◌, ℕ, zero, suc, ◌+◌, ◌*◌, ◌%◌, ◌^◌, ◌<◌, Bool, true, false, cond, ◌&&◌, eqb, List, [], ◌∷◌, length, filter, sym, refl, ap, ◌∙◌, one-mul, pow-suc, add-one, arith}
 use lib.Bits.{bit_or, or_shifted_r}
 use lib.Count.{ones, ones_in, ones_cat}
-use Rattle.std.proofs.lemmas.Nat.{one_shl, pow_pos}
+use Rattle.std.proofs.lemmas.Nat.{one_shl}
 use Rattle.std.proofs.lemmas.Bool.{cond-false, cond-true}
 use Rattle.arrangement.specs.Meaning.{Meaning, lowest}
 use Rattle.meaning.specs.declared.column.Column.{Column}

@@ -1,12 +1,12 @@
 -- At how many slots two tables can differ, from the columns at which they are not alike.
-use Rattle.std.proofs.Common.{◌≡◌, ℕ, Bool, true, false, cond, length, sym, ap, ◌∙◌}
+use Rattle.std.proofs.Common.{◌≡◌, ℕ, Bool, true, false, length, sym, ap, ◌∙◌}
 use lib.Count.{ones}
 use Rattle.std.proofs.lemmas.Bool.{cond-false, cond-true, not-false, not-true}
 use Rattle.meaning.specs.declared.apart.Apart.{Apart}
 use Rattle.meaning.specs.declared.apart.Apart.TheVariants.{NoLimit, Limit}
 use Rattle.meaning.specs.declared.column.Column.TheVariants.{Elsewhere}
 use Rattle.meaning.specs.Answers.{apart, bits_of, unlike_columns}
-use Rattle.meaning.specs.Columns.{alike_at_lem, columns}
+use Rattle.meaning.specs.Columns.{alike_at, columns}
 use Rattle.standing.specs.declared.standing.Standing.{Standing}
 use Rattle.questions.specs.Asked.{list_in, setting_in, unlike_at}
 use Rattle.questions.proofs.Classes.{counted}
@@ -18,7 +18,7 @@ module _ (s : Standing) (a b : ℕ) where
       Limit (bits_of unlike) (length unlike)
 
   abbrev alike-elsewhere : Bool
-  alike-elsewhere = alike_at_lem (setting_in s) (list_in s) (a, b) Elsewhere
+  alike-elsewhere = alike_at (setting_in s) (list_in s) (a, b) Elsewhere
 
   pub no_limit_is : unlike_at s a b Elsewhere ≡ true → NoLimit ≡ apart (setting_in s) (list_in s) a b
   unfolding apart

@@ -5,7 +5,7 @@ use Rattle.column.specs.Naming.{setting_of}
 use Rattle.meaning.specs.declared.apart.Apart.{Apart}
 use Rattle.meaning.specs.declared.column.Column.{Column}
 use Rattle.meaning.specs.Answers.{apart, told}
-use Rattle.meaning.specs.Columns.{alike_at_lem, at, link_at}
+use Rattle.meaning.specs.Columns.{alike_at, at, link_at}
 use Rattle.meaning.specs.Fillings.{Setting}
 use Rattle.standing.specs.declared.standing.Standing.{Standing}
 use Rattle.statement.specs.declared.Reading.{Reading}
@@ -29,7 +29,7 @@ told_answer s a i = cond (nat_lt a s.tables && nat_lt i (setting_in s).slots.siz
 
 -- are the tables not alike at the column?
 abbrev pub unlike_at : Standing → ℕ → ℕ → Column → Bool
-unlike_at s a b k = not (alike_at_lem (setting_in s) (list_in s) (a, b) k)
+unlike_at s a b k = not (alike_at (setting_in s) (list_in s) (a, b) k)
 
 -- is c the lowest name of its class, and are the tables not alike there?
 abbrev pub unlike_class : Standing → ℕ → ℕ → ℕ → Bool

@@ -1,9 +1,9 @@
 -- The links of a column, gathered.
 use Rattle.std.specs.Prelude.{◌≡◌, ℕ, ◌+◌, ◌<◌, ◌≤◌, Bool, true, ◌&&◌, List, [], ◌∷◌, ◌++◌, map, length, take, Some, None, Option, nat_lt, slice_index_or, slice_set, refl}
-use Rattle.std.proofs.Common.{sym, ap, subst, ◌∙◌, arith}
+use Rattle.std.proofs.Common.{sym, ap, ◌∙◌, arith}
 use Rattle.std.proofs.lemmas.List.{get_or_past, get_or-take, length-take-le, map_more, take_all, take_more_set}
 use Rattle.std.proofs.lemmas.Bool.{and_from, and_parts, cond_both, ltb-true}
-use Rattle.std.specs.List.{AllByRecursion as All}
+use Rattle.std.specs.List.{AllByRecursion}
 use Rattle.links.specs.Lists.{all_of}
 use Rattle.column.specs.Naming.{setting_of}
 use Rattle.column.specs.declared.naming.Naming.{Naming}
@@ -26,7 +26,7 @@ module _ (n : ℕ) where
   inside_means (Some p) h =
       let both = and_parts (nat_lt p.0 n) (nat_lt p.1 n) h in (ltb-true p.0 n both.0, ltb-true p.1 n both.1)
 
-  pub all_inside : (es : List (Option (ℕ × ℕ))) → all_of (is_inside n) es ≡ true → All (Inside n) es
+  pub all_inside : (es : List (Option (ℕ × ℕ))) → all_of (is_inside n) es ≡ true → AllByRecursion (Inside n) es
   all_inside [] h = tt
   all_inside (e ∷ es) h =
       let each = and_parts (is_inside n e) (all_of (is_inside n) es) h in (inside_means e each.0, all_inside es each.1)

@@ -1,5 +1,5 @@
 -- Links with gaps, below a count.
-use Rattle.std.specs.Prelude.{ℕ, Bool, true, ◌&&◌, List, Some, None, Option, nat_lt}
+use Rattle.std.specs.Prelude.{ℕ, Bool, true, ◌&&◌, Some, None, Option, nat_lt}
 
 -- are both ends of the entry, if it is a link, below n?
 abbrev pub is_inside : ℕ → Option (ℕ × ℕ) → Bool

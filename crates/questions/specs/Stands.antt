@@ -1,5 +1,5 @@
 -- What a table of standing statements keeps, as the sight of a column asks for it.
-use Rattle.std.specs.Prelude.{◌≡◌, ℕ, ◌<◌, ◌≤◌, Bool, true, false, not, ◌&&◌, List, nat_lt}
+use Rattle.std.specs.Prelude.{◌≡◌, ℕ, ◌<◌, ◌≤◌, true, false, not, List, nat_lt}
 use Rattle.std.proofs.Common.{subst, ◌∙◌, arith}
 use Rattle.std.proofs.lemmas.Bool.{and_from, and_parts, lt-ltb, ltb-true, not-true}
 use Rattle.links.specs.Lists.{Member, all_of}
@@ -12,7 +12,7 @@ use Rattle.column.specs.declared.sight.Sight.{Sight}
 use Rattle.column.proofs.Seeing.{alike_is, clash_is, reading_is}
 use Rattle.meaning.specs.declared.column.Column.{Column}
 use Rattle.meaning.specs.Answers.{known}
-use Rattle.meaning.specs.Columns.{alike_at_lem, clash_at, columns, differences, links_at, marks_at, parted, test}
+use Rattle.meaning.specs.Columns.{alike_at, clash_at, columns, differences, links_at, marks_at, parted, test}
 use Rattle.meaning.specs.Fillings.{Orderly, Setting, is_named, is_within, tables_of}
 use Rattle.standing.specs.declared.standing.Standing.{Standing}
 use Rattle.statement.specs.declared.Statement.{Statement}
@@ -67,8 +67,8 @@ module _ (s : Standing) (k : Column) (r : Sight) where
 
     -- no column clashes, so tables are alike there exactly when they seem so
     pub alike_at_lem : (a b : ℕ) → a < s.tables → b < s.tables → Member k (columns (setting_in s))
-        → seem_alike r a b ≡ alike_at_lem (setting_in s) (list_in s) (a, b) k
-    unfolding alike_at_lem clash_at
+        → seem_alike r a b ≡ alike_at (setting_in s) (list_in s) (a, b) k
+    unfolding alike_at clash_at
     alike_at_lem a b la lb m =
         let w = setting_in s in
         let L = links_at w (list_in s) k in

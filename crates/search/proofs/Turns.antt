@@ -1,6 +1,6 @@
 -- What the search keeps true from turn to turn, and why its answer is the nearest.
 use Rattle.std.proofs.Common.{◌≡◌, ℕ, ◌+◌, ◌<◌, ◌≤◌, Bool, true, false, ltb, ◌⊎◌, List, [], ◌∷◌, map, set, replicate, Some, None, Option, sym, refl, ap, ◌∙◌, subst, inl, inr, arith, length-set}
-use Rattle.std.specs.List.{AllByRecursion as All}
+use Rattle.std.specs.List.{AllByRecursion}
 use Rattle.std.proofs.lemmas.List.{get_or_past, get_or-replicate, get_or-set_same}
 use Rattle.std.proofs.lemmas.Bool.{both_ways, cases_eq, cases_lt, cond-true, lt-ltb}
 use Rattle.links.specs.Chains.{Chain, Linked, Nearest, fewest, next, none}
@@ -198,7 +198,7 @@ module _ {E : Type 0} (made : ℕ → ℕ → E) (name_of : E → ℕ) (distance
         subst (λ m. Nearest (present es) goal from (Some m)) (sym (distance_is ∙ turn_distance))
         (goal_found (present es) goal from left y D (map name_of V) top_e (ap goal (sym name-is) ∙ g))
 
-    pub turn_next : (less : ℕ) (N : List ℕ) (U : List E) → left ≡ less + 1 → All (Inside 128) es → goal x ≡ false
+    pub turn_next : (less : ℕ) (N : List ℕ) (U : List E) → left ≡ less + 1 → AllByRecursion (Inside 128) es → goal x ≡ false
         → walk N U ≡ visited made x (d + 1) es (walk D V)
         → Top (present es) goal from less N (map name_of U) × Honest name_of distance_of N U
     turn_next less N U fewer inside g v =

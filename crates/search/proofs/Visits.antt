@@ -1,6 +1,6 @@
 -- What stays true while the names next to one are noted.
 use Rattle.std.proofs.Common.{◌≡◌, ℕ, ◌+◌, ◌<◌, ◌≤◌, Bool, false, cond, eqb, ◌⊎◌, List, [], ◌∷◌, ◌++◌, map, length, get_or, drop, set, IfSome, Some, None, Option, sym, refl, ap, ◌∙◌, subst, inl, inr, arith, length-set}
-use Rattle.std.specs.List.{AllByRecursion as All}
+use Rattle.std.specs.List.{AllByRecursion}
 use Rattle.std.proofs.ByRecursion.{All-push, All-weaker}
 use Rattle.std.proofs.lemmas.List.{at_drop_more, map_push}
 use Rattle.std.proofs.lemmas.Bool.{cases_eq, cond_both, cond-false, cond-true, eq-eqb, eqb-false, eqb-true, ne_eqb}
@@ -98,7 +98,7 @@ module _ {E : Type 0} (made : ℕ → ℕ → E) (D : List ℕ) (W : List E) (y 
 
 -- each entry that waits says the distance that the table has
 abbrev pub Honest : {E : Type 0} → (E → ℕ) → (E → ℕ → ℕ) → List ℕ → List E → Type 0
-Honest name_of distance_of D es = All (λ e. distance_of e (at D (name_of e)) ≡ at D (name_of e)) es
+Honest name_of distance_of D es = AllByRecursion (λ e. distance_of e (at D (name_of e)) ≡ at D (name_of e)) es
 
 -- what may follow of the other end of an entry, if it has one at x
 abbrev pub Across : ℕ → (ℕ → Type 0) → Option (ℕ × ℕ) → Type 0
@@ -173,8 +173,8 @@ module _ {E : Type 0} (made : ℕ → ℕ → E) (name_of : E → ℕ) (distance
     under_note_if None w u c = ((u, λ z. omega arith), tt)
     under_note_if (Some y) w u c = under_note w y u c
 
-    pub under_visited : (es : List (Option (ℕ × ℕ))) (w : Walk E) → Under w → All (Across x (Opens links x)) es
-        → Onward w (visited made x (n + 1) es w) × All (Across x (λ y. at (visited made x (n + 1) es w).known y ≤ n + 1)) es
+    pub under_visited : (es : List (Option (ℕ × ℕ))) (w : Walk E) → Under w → AllByRecursion (Across x (Opens links x)) es
+        → Onward w (visited made x (n + 1) es w) × AllByRecursion (Across x (λ y. at (visited made x (n + 1) es w).known y ≤ n + 1)) es
     under_visited [] w u a = ((u, λ z. omega arith), tt)
     under_visited (e ∷ es) w u (c, a) =
         let v : Walk E = noted_if made (across e x) (n + 1) w in
@@ -196,7 +196,7 @@ across_linked p links x m (a, b) =
     (λ t. (inl (inl (λ i. (eqb-true p.0 x t i, p.1))), b))
     (λ _. cond_both (eqb p.1 x) (Some p.0) None Leads (λ t. (inr (inl (λ i. (p.0, eqb-true p.1 x t i))), a)) (λ _. tt))
 
-pub opens : (es : List (Option (ℕ × ℕ))) (x : ℕ) → All (Inside 128) es → All (Across x (Opens (present es) x)) es
+pub opens : (es : List (Option (ℕ × ℕ))) (x : ℕ) → AllByRecursion (Inside 128) es → AllByRecursion (Across x (Opens (present es) x)) es
 opens [] x a = tt
 opens (None ∷ es) x (i, a) = (tt, opens es x a)
 opens (Some p ∷ es) x (i, a) = (
@@ -234,7 +234,7 @@ module _ (D : List ℕ) (x d : ℕ) (self : at D x ≤ d) where
             (subst Within (cond-false (eqb p.0 x) (Some p.1) _ (ne_eqb p.0 x other) ∙ cond-true (eqb p.1 x) (Some p.0) None (eq-eqb p.1 x here)) c)
       ]
 
-  pub all_near : (es : List (Option (ℕ × ℕ))) → All (Across x (λ y. at D y ≤ d)) es → (z : ℕ) → Linked (present es) x z → at D z ≤ d
+  pub all_near : (es : List (Option (ℕ × ℕ))) → AllByRecursion (Across x (λ y. at D y ≤ d)) es → (z : ℕ) → Linked (present es) x z → at D z ≤ d
   all_near [] a z (inl m) = elim m [ ]
   all_near [] a z (inr m) = elim m [ ]
   all_near (None ∷ es) (c, a) z j = all_near es a z j
@@ -250,7 +250,7 @@ pub visited_more : {E : Type 0} (made : ℕ → ℕ → E) (x d : ℕ) (es : Lis
 visited_more made x d es k o w v lt e q =
     ap (visited made x d (drop (k + 1) es)) (q ∙ ap (λ u. noted_if made u d w) e) ∙ sym (at_drop_more (λ l. visited made x d l w) es k None lt)
 
-pub inside_wider : (m : ℕ) → m ≤ 128 → (es : List (Option (ℕ × ℕ))) → All (Inside m) es → All (Inside 128) es
+pub inside_wider : (m : ℕ) → m ≤ 128 → (es : List (Option (ℕ × ℕ))) → AllByRecursion (Inside m) es → AllByRecursion (Inside 128) es
 inside_wider m few es a =
     All-weaker (Inside m) (Inside 128)
     (λ e i. cases_weaker e (λ p. (p.0 < m) × (p.1 < m)) (λ p. (p.0 < 128) × (p.1 < 128)) (λ p h. (omega (arith, h.0), omega (arith, h.1))) i)

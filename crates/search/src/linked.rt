@@ -2,7 +2,7 @@
 
 ghost use Rattle.std.specs.Prelude.{◌≡◌, ℕ, ◌≤◌, List, length, None, Option, slice_index_or};
 ghost use Rattle.search.specs.Entries.{Inside};
-ghost use Rattle.std.specs.List.{AllByRecursion as All};
+ghost use Rattle.std.specs.List.{AllByRecursion};
 
 /// Links between names below a count, which run both ways. They stand in entries, of which some may be no link,
 /// so that a table with gaps is searched as it stands.
@@ -25,5 +25,5 @@ pub trait Links {
 
     ghost few: { (x : Self) → count x ≤ 128 };
 
-    ghost inside: { (x : Self) → All (Inside (count x)) (entries x) };
+    ghost inside: { (x : Self) → AllByRecursion (Inside (count x)) (entries x) };
 }

@@ -1,4 +1,4 @@
-use Rattle.std.proofs.Common.{◌≡◌, sym, refl, ◌∙◌, arith, length-set}
+use Rattle.std.proofs.Common.{sym, refl, ◌∙◌, arith, length-set}
 use Rattle.arrangement.specs.Kept.{lawful}
 use Rattle.column.specs.Naming.{setting_of}
 use Rattle.column.specs.Sights.{given}

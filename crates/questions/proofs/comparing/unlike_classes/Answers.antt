@@ -5,7 +5,7 @@ use Rattle.meaning.specs.Columns.{columns, columns_below}
 use Rattle.questions.specs.Asked.{setting_in, unlike_at}
 use Rattle.questions.proofs.Classes.{kept_below, more_below, set_kept, set_more, with_bit}
 use Rattle.questions.proofs.comparing.unlike_classes.Goals as goal
-use Rattle.questions.proofs.comparing.unlike_classes.Goals.{then-is-unlike-class, else-is-unlike-class}
+use Rattle.questions.proofs.comparing.unlike_classes.Goals.{then-is_unlike_class, else-is_unlike_class}
 
 pub loop-c-preserved : goal.loop-c-preserved
 loop-c-preserved c =
@@ -18,12 +18,12 @@ loop-c-preserved c =
     let name : k < s.naming.slots.count = omega (arith, counted, c.loop-c-test.true) in
     let small : k < 64 = omega (arith, name, s.naming.slots.small) in
     elim c.if-is_unlike_class.branch [
-      | then-is-unlike-class w ↦
+      | then-is_unlike_class w ↦
           let is : c.if-is_unlike_class.set ≡ 2 ^ k + set = w.set-is ∙ with_bit k set c.loop-c.invariant.0 small in (
             subst (λ n. n < 2 ^ (k + 1)) (sym is) (more_below k set c.loop-c.invariant.0),
             λ la lb. is ∙ set_more m p k set (sym (w.if-is_unlike_class.ensures la lb name)) (c.loop-c.invariant.1 la lb),
           )
-      | else-is-unlike-class w ↦ (
+      | else-is_unlike_class w ↦ (
         subst (λ n. n < 2 ^ (k + 1)) (sym w.set-is) (kept_below k set c.loop-c.invariant.0),
         λ la lb. w.set-is ∙ set_kept m p k set (sym (w.if-is_unlike_class.ensures la lb name)) (c.loop-c.invariant.1 la lb),
       )
