@@ -4,21 +4,22 @@
 
 LOG ?= examples/worked.log
 PROGRAM = dump
+BUILT = crates/$(PROGRAM)/out/$(PROGRAM)
 
 .PHONY: run test clean
 
-run: target/bin/$(PROGRAM)
-	@target/bin/$(PROGRAM) < $(LOG)
+run: $(BUILT)
+	@$(BUILT) < $(LOG)
 
 # A program is built only once its proof is checked; rt takes over what has not changed.
-target/bin/$(PROGRAM): crates.txt $(shell find crates -name '*.rt' -o -name '*.antt')
+$(BUILT): crates.txt $(shell find crates -path '*/out' -prune -o \( -name '*.rt' -o -name '*.antt' \) -print)
 	@mkdir -p target
 	@echo "proving and building $(PROGRAM) (a few minutes the first time)"
-	@rt check $(PROGRAM) > target/$(PROGRAM).log 2>&1 || { cat target/$(PROGRAM).log; exit 1; }
+	@cd crates/$(PROGRAM) && rt run < /dev/null > ../../target/$(PROGRAM).log 2>&1 || { cat ../../target/$(PROGRAM).log; exit 1; }
 	@touch $@
 
 test:
 	@.ci/run
 
 clean:
-	rm -rf target
+	rm -rf target crates/*/out
