@@ -3,7 +3,7 @@ use Rattle.std.proofs.Common.{◌≡◌, ℕ, ◌<◌, ◌≤◌, Bool, true, �
 use Rattle.std.proofs.lemmas.Bool.{and_from, and_parts, false≢true, or_cases, or_left, or_right}
 use Rattle.arrangement.specs.Meaning.{Meaning, Lawful, same}
 use Rattle.arrangement.specs.Pairs.{across, joined_meaning, meets}
-use Rattle.arrangement.specs.Laws.{lawful_each, lawful_from, same_answer, same_from, same_low, same-related}
+use Rattle.arrangement.specs.Laws.{lawful_each, lawful_from, same_answer, same_from, same_low, same_related}
 
 module _ (m : Meaning) where
   abbrev Same : ℕ → ℕ → Type 0
@@ -18,9 +18,9 @@ module _ (m : Meaning) where
   Across None i j = ⊥
   Across (Some pair) i j = Ends pair.0 pair.1 i j ⊎ Ends pair.1 pair.0 i j
 
-  across-has : (pair : Option (ℕ × ℕ)) (i j : ℕ) → across m pair i j ≡ true → Across pair i j
-  across-has None i j h = false≢true h
-  across-has (Some pair) i j h =
+  across_has : (pair : Option (ℕ × ℕ)) (i j : ℕ) → across m pair i j ≡ true → Across pair i j
+  across_has None i j h = false≢true h
+  across_has (Some pair) i j h =
       elim (or_cases (meets m pair.0 pair.1 i j) (meets m pair.1 pair.0 i j) h) [
         | inl e ↦ inl (and_parts _ _ e)
         | inr e ↦ inr (and_parts _ _ e)
@@ -46,9 +46,9 @@ module _ (m : Meaning) where
   Related pair i j = Same i j ⊎ Across pair i j
 
   module _ (pair : Option (ℕ × ℕ)) (i j : ℕ) where
-    related-has : (same m i j || across m pair i j) ≡ true → Related pair i j
-    related-has h =
-        elim (or_cases (same m i j) (across m pair i j) h) [ inl e ↦ inl e | inr e ↦ inr (across-has pair i j e) ]
+    related_has : (same m i j || across m pair i j) ≡ true → Related pair i j
+    related_has h =
+        elim (or_cases (same m i j) (across m pair i j) h) [ inl e ↦ inl e | inr e ↦ inr (across_has pair i j e) ]
 
     related_from : Related pair i j → (same m i j || across m pair i j) ≡ true
     related_from (inl e) = or_left _ _ e
@@ -63,8 +63,8 @@ module _ (m : Meaning) where
     joined_same =
         let above = joined_meaning m pair in
         same_answer (same m i j || across m pair i j) (same above i j)
-        (λ h. let names = related_low (related-has h) in same_from above i j names.0 names.1 h)
-        (λ h. same-related above i j h)
+        (λ h. let names = related_low (related_has h) in same_from above i j names.0 names.1 h)
+        (λ h. same_related above i j h)
 
   module _ (law : Lawful m) where
     -- two that are the same as a third
@@ -99,12 +99,12 @@ module _ (m : Meaning) where
         inr (across_turn pair k i (across_after pair k j i (law.back j k b) (across_turn pair i j a)))
     through pair i j k (inr a) (inr b) = inl (across_twice pair i j k a b)
 
-    pub joined-lawful : (pair : Option (ℕ × ℕ)) → Lawful (joined_meaning m pair)
-    joined-lawful pair =
+    pub joined_lawful : (pair : Option (ℕ × ℕ)) → Lawful (joined_meaning m pair)
+    joined_lawful pair =
         lawful_from (joined_meaning m pair) law.small
         (λ i l. related_from pair i i (inl (law.itself i l)))
-        (λ i j h. related_from pair j i (turn pair i j (related-has pair i j h)))
-        (λ i j k h g. related_from pair i k (through pair i j k (related-has pair i j h) (related-has pair j k g)))
+        (λ i j h. related_from pair j i (turn pair i j (related_has pair i j h)))
+        (λ i j k h g. related_from pair i k (through pair i j k (related_has pair i j h) (related_has pair j k g)))
 
 -- the answer, from that of the arrangement below
 pub joined_or : (m : Meaning) (pair : Option (ℕ × ℕ)) (i j : ℕ) (below : Bool) → below ≡ same m i j → (below || across m pair i j) ≡ same (joined_meaning m pair) i j
@@ -118,4 +118,4 @@ pub joined_each : {X : Type 0} (meaning : X → Meaning)
     → ((x : X) (i j k : ℕ) → same (meaning x) i j ≡ true → same (meaning x) j k ≡ true → same (meaning x) i k ≡ true)
     → (x : X) (pair : Option (ℕ × ℕ)) → Lawful (joined_meaning (meaning x) pair)
 joined_each meaning small itself back through x pair =
-    joined-lawful (meaning x) (lawful_each meaning small itself back through x) pair
+    joined_lawful (meaning x) (lawful_each meaning small itself back through x) pair

@@ -5,8 +5,8 @@ use Rattle.std.proofs.lemmas.Bool.{eq-eqb, eqb-true}
 use Rattle.arrangement.specs.declared.classes.Classes.{Classes}
 use Rattle.arrangement.specs.Meaning.{Meaning, Lawful, lowest, same}
 use Rattle.arrangement.specs.Stored.{classes_meaning, stored_meaning}
-use Rattle.arrangement.specs.Laws.{lawful_by, same_answer, same_from, same_low, same-related}
-use Rattle.arrangement.specs.Lowest.{lowest_back, lowest_in, lowest-le, lowest-least, lowest-same, lowest_twice}
+use Rattle.arrangement.specs.Laws.{lawful_by, same_answer, same_from, same_low, same_related}
+use Rattle.arrangement.specs.Lowest.{lowest_back, lowest_in, lowest-le, lowest_least, lowest_same, lowest_twice}
 
 pub lawful : (c : Classes) → Lawful (classes_meaning c)
 lawful c = lawful_by c.count (λ i. slice_index c.lowest i) c.small
@@ -18,10 +18,10 @@ stored_lowest c i l =
     let at : ℕ → ℕ = λ k. slice_index_or c.lowest k 0 in
     let k = lowest m i in
     let s = lowest_in m (lawful c) i l in
-    let e = eqb-true (at k) (at i) (same-related m k i s) in
+    let e = eqb-true (at k) (at i) (same_related m k i s) in
     let above = c.down k (same_low m k i s).0 in
     let down = c.down i l in
-    let below = lowest-least m (lawful c) i (at i) (same_from m (at i) i (omega arith) l (eq-eqb (at (at i)) (at i) (c.root i l))) in
+    let below = lowest_least m (lawful c) i (at i) (same_from m (at i) i (omega arith) l (eq-eqb (at (at i)) (at i) (c.root i l))) in
     omega (arith, below, above, e)
 
 -- the lowest names of an arrangement, stored in a list
@@ -33,7 +33,7 @@ module _ (m : Meaning) (law : Lawful m) (size : ℕ) (list : List ℕ) (e : size
       same_answer (same s i j) (same m i j)
       (λ h.
       let names = same_low s i j h in
-      let one = eqb-true (slice_index list i) (slice_index list j) (same-related s i j h) in
+      let one = eqb-true (slice_index list i) (slice_index list j) (same_related s i j h) in
       lowest_back m law i j (omega (arith, names.0)) (omega (arith, names.1))
       (sym (stored i names.0) ∙ one ∙ stored j names.1))
       (λ h.
@@ -41,7 +41,7 @@ module _ (m : Meaning) (law : Lawful m) (size : ℕ) (list : List ℕ) (e : size
       let l : i < size = omega (arith, names.0) in
       let k : j < size = omega (arith, names.1) in
       same_from s i j l k
-      (eq-eqb (slice_index list i) (slice_index list j) (stored i l ∙ lowest-same m law i j h ∙ sym (stored j k))))
+      (eq-eqb (slice_index list i) (slice_index list j) (stored i l ∙ lowest_same m law i j h ∙ sym (stored j k))))
 
   pub down_from : (i : ℕ) → i < size → slice_index list i ≤ i
   down_from i l = omega (arith, stored i l, lowest-le m law i)

@@ -13,17 +13,17 @@ module _ (m : Meaning) (i j : ℕ) where
       let each = and_parts (nat_lt i m.size) (nat_lt j m.size) names in
       (ltb-true i m.size each.0, ltb-true j m.size each.1)
 
-  pub same-related : same m i j ≡ true → m.related i j ≡ true
+  pub same_related : same m i j ≡ true → m.related i j ≡ true
   unfolding same
-  same-related h = (and_parts (nat_lt i m.size && nat_lt j m.size) (m.related i j) h).1
+  same_related h = (and_parts (nat_lt i m.size && nat_lt j m.size) (m.related i j) h).1
 
   -- of two names `related` says all
-  pub same-within : i < m.size → j < m.size → m.related i j ≡ same m i j
+  pub same_within : i < m.size → j < m.size → m.related i j ≡ same m i j
   unfolding same
-  same-within l k = sym (ap (λ b. b && m.related i j) (and_from (nat_lt i m.size) (nat_lt j m.size) (lt-ltb i m.size l) (lt-ltb j m.size k)))
+  same_within l k = sym (ap (λ b. b && m.related i j) (and_from (nat_lt i m.size) (nat_lt j m.size) (lt-ltb i m.size l) (lt-ltb j m.size k)))
 
   pub same_from : i < m.size → j < m.size → m.related i j ≡ true → same m i j ≡ true
-  same_from l k h = sym (same-within l k) ∙ h
+  same_from l k h = sym (same_within l k) ∙ h
 
   -- what is no name is the same as nothing
   pub left_beyond : m.size ≤ i → false ≡ same m i j
@@ -51,9 +51,9 @@ lawful_from m small itself back through = record {
   itself = λ i l. same_from m i i l l (itself i l);
   back = λ i j h.
       let names = same_low m i j h in
-      same_from m j i names.1 names.0 (back i j (same-related m i j h));
+      same_from m j i names.1 names.0 (back i j (same_related m i j h));
   through = λ i j k h g.
-      same_from m i k (same_low m i j h).0 (same_low m j k g).1 (through i j k (same-related m i j h) (same-related m j k g));
+      same_from m i k (same_low m i j h).0 (same_low m j k g).1 (through i j k (same_related m i j h) (same_related m j k g));
 }
 
 -- the laws of each of many, put together

@@ -15,20 +15,20 @@ module _ (m : Meaning) (law : Lawful m) where
   unfolding lowest
   lowest_in i l = low_in (same m) law.back law.through i (law.itself i l)
 
-  pub lowest-least : (i j : ℕ) → same m j i ≡ true → lowest m i ≤ j
+  pub lowest_least : (i j : ℕ) → same m j i ≡ true → lowest m i ≤ j
   unfolding lowest
-  lowest-least i j h = low_least (same m) law.back law.through i j h
+  lowest_least i j h = low_least (same m) law.back law.through i j h
 
-  pub lowest-same : (i j : ℕ) → same m i j ≡ true → lowest m i ≡ lowest m j
+  pub lowest_same : (i j : ℕ) → same m i j ≡ true → lowest m i ≡ lowest m j
   unfolding lowest
-  lowest-same i j h = low_same (same m) law.back law.through i j h
+  lowest_same i j h = low_same (same m) law.back law.through i j h
 
   pub lowest_back : (i j : ℕ) → i < m.size → j < m.size → lowest m i ≡ lowest m j → same m i j ≡ true
   unfolding lowest
   lowest_back i j l k h = low_back (same m) law.back law.through i j (law.itself i l) (law.itself j k) h
 
   pub lowest_twice : (i : ℕ) → i < m.size → lowest m (lowest m i) ≡ lowest m i
-  lowest_twice i l = lowest-same (lowest m i) i (lowest_in i l)
+  lowest_twice i l = lowest_same (lowest m i) i (lowest_in i l)
 
 -- the first number that passes is the least, and the last one where none does
 module _ (p : ℕ → Bool) where

@@ -5,7 +5,7 @@ use Rattle.std.proofs.lemmas.List.{get_or-take, length-take-le}
 use Rattle.arrangement.specs.declared.assigned.Assigned.{Assigned}
 use Rattle.arrangement.specs.Meaning.{Lawful, same}
 use Rattle.arrangement.specs.Numbers.{assigned_meaning, numbers_of}
-use Rattle.arrangement.specs.Laws.{lawful_by, left_beyond, right_beyond, same-within}
+use Rattle.arrangement.specs.Laws.{lawful_by, left_beyond, right_beyond, same_within}
 
 module _ (x : Assigned) where
   pub size_is : length (numbers_of x) ≡ x.count
@@ -20,7 +20,7 @@ module _ (x : Assigned) where
         let at : (k : ℕ) → k < x.count → slice_index x.numbers k ≡ slice_index_or (numbers_of x) k 0 = λ k l. sym (get_or-take x.count x.numbers k 0 l) in
         ap (λ n. nat_eq n (slice_index x.numbers j)) (at i l)
         ∙ ap (λ n. nat_eq (slice_index (numbers_of x) i) n) (at j k)
-        ∙ same-within (assigned_meaning (numbers_of x)) i j (omega (arith, size_is)) (omega (arith, size_is))
+        ∙ same_within (assigned_meaning (numbers_of x)) i j (omega (arith, size_is)) (omega (arith, size_is))
 
     pub no_left : x.count ≤ i → false ≡ same (assigned_meaning (numbers_of x)) i j
     no_left l = left_beyond (assigned_meaning (numbers_of x)) i j (omega (arith, size_is))

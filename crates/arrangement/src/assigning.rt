@@ -3,7 +3,6 @@
 ghost use Rattle.std.specs.Prelude.{◌≡◌, [], length, nat_lt};
 ghost use Rattle.arrangement.specs.Numbers.{assigned_meaning, fill_answer, filled, numbers_of};
 ghost use Rattle.arrangement.specs.NumbersLemmas.{lawful};
-ghost use Rattle.std.proofs.Common.{rules, arith};
 
 use crate::Arrangement;
 use crate::assigned::Assigned;
@@ -47,7 +46,7 @@ impl Assigned {
 impl Arrangement for Assigned {
     ghost meaning = { λ x. assigned_meaning (numbers_of x) };
 
-    ghost bounded = { first_of (Prim.search rules, Prim.grind (arith, Self.row.coded.inj)) };
+    ghost bounded = { λ x. (lawful x).small };
 
     ghost reflexive = { λ x. (lawful x).itself };
 

@@ -4,7 +4,6 @@ ghost use Rattle.std.specs.Prelude.{◌≡◌, ℕ};
 ghost use Rattle.arrangement.specs.Meaning.{lowest, same};
 ghost use Rattle.arrangement.specs.Stored.{classes_meaning, lowest_of};
 ghost use Rattle.arrangement.specs.Kept.{lawful};
-ghost use Rattle.std.proofs.Common.{rules};
 
 use crate::Arrangement;
 use crate::classes::Classes;
@@ -75,7 +74,7 @@ impl<A: Arrangement> Classed<A> {
 impl<A: Arrangement> Arrangement for Classed<A> {
     ghost meaning = { λ x. classes_meaning x.classes };
 
-    ghost bounded = { Prim.search rules };
+    ghost bounded = { λ x. (lawful x.classes).small };
 
     ghost reflexive = { λ x. (lawful x.classes).itself };
 

@@ -3,7 +3,6 @@
 ghost use Rattle.std.specs.Prelude.{◌≡◌, None};
 ghost use Rattle.arrangement.specs.Joins.{joined_each};
 ghost use Rattle.arrangement.specs.Pairs.{across, joined_meaning, meets, pair_after, pair_answer};
-ghost use Rattle.std.proofs.Common.{rules};
 
 use crate::Arrangement;
 use crate::refusal::Refusal;
@@ -64,7 +63,7 @@ impl<A: Arrangement> Joined<A> {
 impl<A: Arrangement> Arrangement for Joined<A> {
     ghost meaning = { λ x. joined_meaning (A.Arrangement.meaning x.inner) x.pair };
 
-    ghost bounded = { Prim.search rules };
+    ghost bounded = { λ x. A.bounded x.inner };
 
     ghost reflexive = { λ x. (joined_each A.meaning A.bounded A.reflexive A.symmetric A.transitive x.inner x.pair).itself };
 

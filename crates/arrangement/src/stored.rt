@@ -3,7 +3,6 @@
 ghost use Rattle.std.specs.Prelude.{◌≡◌};
 ghost use Rattle.arrangement.specs.Stored.{classes_meaning, lowest_of};
 ghost use Rattle.arrangement.specs.Kept.{lawful};
-ghost use Rattle.std.proofs.Common.{rules, arith};
 
 use crate::Arrangement;
 use crate::classes::Classes;
@@ -24,7 +23,7 @@ impl Classes {
 impl Arrangement for Classes {
     ghost meaning = { λ x. classes_meaning x };
 
-    ghost bounded = { first_of (Prim.search rules, Prim.grind (arith, Self.row.coded.inj)) };
+    ghost bounded = { λ x. (lawful x).small };
 
     ghost reflexive = { λ x. (lawful x).itself };
 

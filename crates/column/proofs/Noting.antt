@@ -7,10 +7,10 @@ use Rattle.links.specs.Groups.{Roots, root_of}
 use Rattle.links.specs.Lists.{Member}
 use Rattle.links.proofs.Lists.{member_cases, member_left, member_right}
 use Rattle.links.proofs.Reach.{joined_finds, joined_through, joined_turn}
-use Rattle.links.proofs.Roots.{lowest_back as joined_back, lowest-le as joined-le, lowest-same as joined_same}
+use Rattle.links.proofs.Roots.{lowest_back as joined_back, lowest-le as joined-le, lowest_same as joined_same}
 use Rattle.arrangement.specs.Meaning.{Lawful, Meaning, lowest, same}
 use Rattle.arrangement.specs.Laws.{same_answer}
-use Rattle.arrangement.specs.Lowest.{lowest_back, lowest-le, lowest-same}
+use Rattle.arrangement.specs.Lowest.{lowest_back, lowest-le, lowest_same}
 use Rattle.meaning.specs.Answers.{first_that, known_by, or_else, reading_in}
 use Rattle.meaning.specs.Columns.{Clash}
 use Rattle.meaning.proofs.Known.{Marked, Unmarked, known_cases}
@@ -190,27 +190,27 @@ module _ (m : Meaning) (law : Lawful m) (L M : List (ℕ × ℕ)) (root stored :
     clash_old x = record {
       p = x.p;
       q = x.q;
-      marked-p = old_in x.p x.marked-p;
-      marked-q = old_in x.q x.marked-q;
+      marked_p = old_in x.p x.marked_p;
+      marked_q = old_in x.q x.marked_q;
       chain = x.chain;
       unlike = x.unlike;
     }
 
-    new_clash-has : new_clash ≡ true → Clash m L More
-    new_clash-has h =
+    new_clash_has : new_clash ≡ true → Clash m L More
+    new_clash_has h =
         let both = (and_parts (ltb t 128) (not (eqb (mark_of root stored t) 64) && not (eqb (mark_of root stored t) c)) h).1 in
         let each = and_parts (not (eqb (mark_of root stored t) 64)) (not (eqb (mark_of root stored t) c)) both in
         elim (known_cases m L M t) [
           | inl r ↦ record {
             p = r.mark;
             q = (t, v);
-            marked-p = old_in r.mark r.among;
-            marked-q = new_in;
+            marked_p = old_in r.mark r.among;
+            marked_q = new_in;
             chain = (joined_finds L r.mark.0 t).0 (joined_turn L t r.mark.0 r.chain);
             unlike = elim (cases_Bool (same m r.mark.1 v)) [
               | inl e ↦
                   absurd (eqb-false (mark_of root stored t) c (not-true (eqb (mark_of root stored t) c) each.1)
-                  (mark_some t lt r ∙ lowest-same m law r.mark.1 v e))
+                  (mark_some t lt r ∙ lowest_same m law r.mark.1 v e))
               | inr e ↦ e
             ];
           }
@@ -236,8 +236,8 @@ module _ (m : Meaning) (law : Lawful m) (L M : List (ℕ × ℕ)) (root stored :
                     or_left clash new_clash (seen.clashes.1 (record {
                       p = p;
                       q = z;
-                      marked-p = k;
-                      marked-q = r.among;
+                      marked_p = k;
+                      marked_q = r.among;
                       chain = (joined_finds L p.0 z.0).0 (joined_through L p.0 t z.0 j r.chain);
                       unlike = elim (cases_Bool (same m p.1 z.1)) [
                         | inl s ↦ absurd (both_ways (same m p.1 v) unlike (law.through p.1 z.1 v s z-v))
@@ -251,14 +251,14 @@ module _ (m : Meaning) (law : Lawful m) (L M : List (ℕ × ℕ)) (root stored :
     same_back i j h = elim (cases_Bool (same m j i)) [ inl e ↦ absurd (both_ways (same m i j) h (law.back j i e)) | inr e ↦ e ]
 
     clash_more : Clash m L More → (clash || new_clash) ≡ true
-    clash_more x = go (more_cases x.p x.marked-p) (more_cases x.q x.marked-q)
+    clash_more x = go (more_cases x.p x.marked_p) (more_cases x.q x.marked_q)
       where
         j : joined L x.p.0 x.q.0 ≡ true
         j = (joined_finds L x.p.0 x.q.0).1 x.chain
 
         go : Member x.p M ⊎ ((t, v) ≡ x.p) → Member x.q M ⊎ ((t, v) ≡ x.q) → (clash || new_clash) ≡ true
         go (inl k) (inl l) =
-            or_left clash new_clash (seen.clashes.1 (record { p = x.p; q = x.q; marked-p = k; marked-q = l; chain = x.chain; unlike = x.unlike }))
+            or_left clash new_clash (seen.clashes.1 (record { p = x.p; q = x.q; marked_p = k; marked_q = l; chain = x.chain; unlike = x.unlike }))
         go (inl k) (inr e) =
             met x.p k (subst (λ (q : ℕ × ℕ). joined L x.p.0 q.0 ≡ true) (sym e) j)
             (subst (λ (q : ℕ × ℕ). same m x.p.1 q.1 ≡ false) (sym e) x.unlike)
@@ -276,7 +276,7 @@ module _ (m : Meaning) (law : Lawful m) (L M : List (ℕ × ℕ)) (root stored :
       named = named_more;
       known = known_after;
       clashes = (
-        (λ h. elim (or_cases clash new_clash h) [ inl e ↦ clash_old (seen.clashes.0 e) | inr e ↦ new_clash-has e ]),
+        (λ h. elim (or_cases clash new_clash h) [ inl e ↦ clash_old (seen.clashes.0 e) | inr e ↦ new_clash_has e ]),
         clash_more,
       );
     }
@@ -296,5 +296,5 @@ seen_none m L root stored roots blank = record {
   roots = roots;
   named = λ p k. elim k [ ];
   known = λ t l. blank (lowest_joined L t);
-  clashes = ((λ h. absurd (false≢true h)), (λ x. absurd x.marked-p));
+  clashes = ((λ h. absurd (false≢true h)), (λ x. absurd x.marked_p));
 }

@@ -6,10 +6,10 @@ use Rattle.links.specs.Groups.{root_of}
 use Rattle.links.specs.Lists.{Member, all_of}
 use Rattle.links.proofs.Lists.{all_has, member_left, member_right}
 use Rattle.links.proofs.Reach.{joined_finds, joined_through, joined_turn}
-use Rattle.links.proofs.Roots.{lowest_back as joined_back, lowest-same as joined_same}
+use Rattle.links.proofs.Roots.{lowest_back as joined_back, lowest_same as joined_same}
 use Rattle.arrangement.specs.Meaning.{Lawful, Meaning, lowest, same}
 use Rattle.arrangement.specs.Laws.{same_answer}
-use Rattle.arrangement.specs.Lowest.{lowest_back, lowest-same}
+use Rattle.arrangement.specs.Lowest.{lowest_back, lowest_same}
 use Rattle.statement.specs.declared.Statement.{Statement}
 use Rattle.statement.specs.declared.Statement.TheVariants.{W, R, E, D}
 use Rattle.meaning.specs.declared.column.Column.{Column}
@@ -19,7 +19,7 @@ use Rattle.meaning.specs.Fillings.{Setting, is_named, is_within, tables_of}
 use Rattle.meaning.proofs.Known.{Marked, Unmarked, known_cases}
 use Rattle.meaning.proofs.Lists.{none_some, some_inj}
 use Rattle.meaning.proofs.Sound.{mark_reading, reading_named}
-use Rattle.meaning.proofs.Marks.{alike_means, clash_from, clash-has}
+use Rattle.meaning.proofs.Marks.{alike_means, clash_from, clash_has}
 use Rattle.column.specs.declared.sight.Sight.{Sight}
 use Rattle.column.specs.Sights.{Readable, Seen, SeenBy, given, mark_of, marked_clash, marked_marks, reading_of, seem_alike}
 use Rattle.column.proofs.Noting.{mark_none, mark_not_none, mark_some, root_is, seen_more}
@@ -34,7 +34,7 @@ module _ (m : Meaning) (law : Lawful m) (L M : List (ℕ × ℕ)) (s : Sight) (s
   pub clash_is : s.clash ≡ clash m L M
   clash_is =
       same_answer s.clash (clash m L M)
-      (λ h. clash_from m L M (seen.clashes.0 h)) (λ h. seen.clashes.1 (clash-has m L M h))
+      (λ h. clash_from m L M (seen.clashes.0 h)) (λ h. seen.clashes.1 (clash_has m L M h))
 
   pub lowest_is : (t : ℕ) → t < 128 → root_of s.groups.root t ≡ lowest_joined L t
   lowest_is t l = root_is m law L M s.groups.root s.marks s.clash seen s.groups.long s.long t l
@@ -68,8 +68,8 @@ module _ (m : Meaning) (law : Lawful m) (L M : List (ℕ × ℕ)) (s : Sight) (s
           | inr e ↦ absurd (both_ways s.clash calm (seen.clashes.1 (record {
             p = p;
             q = q;
-            marked-p = k;
-            marked-q = l;
+            marked_p = k;
+            marked_q = l;
             chain = (joined_finds L p.0 q.0).0 j;
             unlike = e;
           })))
@@ -82,7 +82,7 @@ module _ (m : Meaning) (law : Lawful m) (L M : List (ℕ × ℕ)) (s : Sight) (s
         elim (known_cases m L M t) [
           | inl r ↦ (
             mark_some m law L M root s.marks s.clash seen s.groups.long s.long t l r
-                ∙ lowest-same m law r.mark.1 p.1
+                ∙ lowest_same m law r.mark.1 p.1
                 (marks_agree r.mark p r.among k (joined_through L r.mark.0 t p.0 (joined_turn L t r.mark.0 r.chain) j)),
             mark_not_none m law L M root s.marks s.clash seen s.groups.long s.long t l r,
           )
@@ -95,11 +95,11 @@ module _ (m : Meaning) (law : Lawful m) (L M : List (ℕ × ℕ)) (s : Sight) (s
         (eq-eqb (root_of root a) (root_of root b)
         (lowest_is a la ∙ joined_same L a b ((joined_finds L a b).1 chain) ∙ sym (lowest_is b lb)))
     seem_from (inr r) =
-        let x = mark_of_lem a la r.p r.marked-p ((joined_finds L a r.p.0).1 r.chain_a) in
-        let y = mark_of_lem b lb r.q r.marked-q ((joined_finds L b r.q.0).1 r.chain_b) in
+        let x = mark_of_lem a la r.p r.marked_p ((joined_finds L a r.p.0).1 r.chain_a) in
+        let y = mark_of_lem b lb r.q r.marked_q ((joined_finds L b r.q.0).1 r.chain_b) in
         or_right one_group one_mark
         (and_from (not (eqb (mark a) 64)) (eqb (mark a) (mark b)) (not_from_false (eqb (mark a) 64) (ne_eqb (mark a) 64 x.1))
-        (eq-eqb (mark a) (mark b) (x.0 ∙ lowest-same m law r.p.1 r.q.1 r.alike ∙ sym y.0)))
+        (eq-eqb (mark a) (mark b) (x.0 ∙ lowest_same m law r.p.1 r.q.1 r.alike ∙ sym y.0)))
 
     seem_has : seem_alike s a b ≡ true → TablesAlike m L M a b
     seem_has h =
@@ -127,8 +127,8 @@ module _ (m : Meaning) (law : Lawful m) (L M : List (ℕ × ℕ)) (s : Sight) (s
             inr (record {
               p = p.mark;
               q = q.mark;
-              marked-p = p.among;
-              marked-q = q.among;
+              marked_p = p.among;
+              marked_q = q.among;
               chain_a = (joined_finds L a p.mark.0).0 p.chain;
               chain_b = (joined_finds L b q.mark.0).0 q.chain;
               alike = lowest_back m law p.mark.1 q.mark.1 (seen.named p.mark p.among).1 (seen.named q.mark q.among).1
@@ -143,10 +143,10 @@ module _ (m : Meaning) (law : Lawful m) (L M : List (ℕ × ℕ)) (s : Sight) (s
         (λ h. (alike_means m L M a b).1 (seem_has h)) (λ h. seem_from ((alike_means m L M a b).0 h))
 
 -- one more mark, in a sight
-pub seen-marked : (m : Meaning) → Lawful m → (L M : List (ℕ × ℕ)) (s s' : Sight) → Seen m L M s → (t v c : ℕ) → t < 128 → v < m.size → c ≡ lowest m v
+pub seen_marked : (m : Meaning) → Lawful m → (L M : List (ℕ × ℕ)) (s s' : Sight) → Seen m L M s → (t v c : ℕ) → t < 128 → v < m.size → c ≡ lowest m v
     → s'.groups ≡ s.groups → s'.marks ≡ marked_marks s.groups.root s.marks t c
     → s'.clash ≡ (s.clash || marked_clash s.groups.root s.marks t c) → Seen m L (M ++ (t, v) ∷ []) s'
-seen-marked m law L M s s' seen t v c lt lv e groups marks clashes =
+seen_marked m law L M s s' seen t v c lt lv e groups marks clashes =
     let root = s.groups.root in
     let more = seen_more m law L M root s.marks s.clash seen s.groups.long s.long t v lt lv in
     let more-c : SeenBy m L (M ++ (t, v) ∷ []) root (marked_marks root s.marks t c) (s.clash || marked_clash root s.marks t c) =

@@ -16,12 +16,12 @@ use Rattle.column.specs.declared.naming.Naming.{Naming}
 use Rattle.column.specs.Naming.{setting_of}
 use Rattle.column.specs.Sights.{Readable, given}
 use Rattle.decision.specs.Citations.{Found, Turns, Unfit, fitting}
-use Rattle.decision.proofs.Halving.{drop-within, staying_all, staying_none, staying_turn}
+use Rattle.decision.proofs.Halving.{drop_within, staying_all, staying_none, staying_turn}
 
 -- a part of what is readable is
-pub readable-part : (w : Setting) (offered : Statement) (xs ys : List Statement) → Within xs ys → Readable w (offered ∷ ys)
+pub readable_part : (w : Setting) (offered : Statement) (xs ys : List Statement) → Within xs ys → Readable w (offered ∷ ys)
     → Readable w (offered ∷ xs)
-readable-part w offered xs ys v r x m = r x (within_more offered xs ys v x m)
+readable_part w offered xs ys v r x m = r x (within_more offered xs ys v x m)
 
 -- the answer on those kept and the rest from place m on, which the test is lent as a part of a slice
 pub tested : (w : Setting) (offered : Statement) (kept rest : List Statement) (m : ℕ) (answer : Bool)
@@ -30,7 +30,7 @@ pub tested : (w : Setting) (offered : Statement) (kept rest : List Statement) (m
     → Readable w (given offered kept rest) → fitting w offered (kept ++ drop m rest) ≡ answer
 tested w offered kept rest m answer told readable =
     let whole = sym (take_rest rest m) in
-    let part = readable-part w offered (kept ++ drop m rest) (kept ++ rest) (after_within kept (drop m rest) rest (drop-within m rest)) readable in
+    let part = readable_part w offered (kept ++ drop m rest) (kept ++ rest) (after_within kept (drop m rest) rest (drop_within m rest)) readable in
     ap (λ (ys : List Statement). fitting w offered (kept ++ ys)) whole
     ∙ sym (told (subst (λ (ys : List Statement). Readable w (given offered kept ys)) whole part))
 
@@ -39,7 +39,7 @@ pub tested_alone : (w : Setting) (offered : Statement) (kept rest : List Stateme
     → (Readable w (given offered kept []) → answer ≡ test w (given offered kept []))
     → Readable w (given offered kept rest) → fitting w offered (kept ++ []) ≡ answer
 tested_alone w offered kept rest answer told readable =
-    sym (told (readable-part w offered (kept ++ []) (kept ++ rest) (after_within kept [] rest (λ x m. absurd m)) readable))
+    sym (told (readable_part w offered (kept ++ []) (kept ++ rest) (after_within kept [] rest (λ x m. absurd m)) readable))
 
 -- The positions found so far are `ps`, the statements there are `kept`, and the others to blame stand from place p on.
 pub record Blaming (w : Setting) (offered : Statement) (list : List Statement) (ps : List ℕ) (kept : List Statement) (p : ℕ) : Type 0 where
@@ -78,7 +78,7 @@ module _ (naming : Naming) (offered : Statement) (list : List Statement) (readab
     found_in : (answer : Option ℕ) → (Unfit w offered (kept ++ lent) → Found fits kept lent answer) → Found fits kept (drop p list) answer
     found_in answer found =
         subst (λ (ys : List Statement). Unfit w offered (kept ++ ys) → Found fits kept ys answer) (take_rest list p) found
-        (record { readable = readable-part w offered (kept ++ drop p list) list b.within readable; fails = b.fails })
+        (record { readable = readable_part w offered (kept ++ drop p list) list b.within readable; fails = b.fails })
 
     -- once none is found, all that are to blame are kept
     pub blaming_all : (Unfit w offered (kept ++ lent) → Found fits kept lent None) → cited w list offered ≡ ps
@@ -128,5 +128,5 @@ module _ (naming : Naming) (offered : Statement) (list : List Statement) (readab
         whole = b.whole ∙ ap (λ qs. ps ++ qs) stays ∙ sym (append_assoc ps (q ∷ []) (staying fits more (q + 1) (drop q list)));
         fails = ap fits again ∙ turns.fails;
         within = λ x m.
-            b.within x (after_within kept (drop i (drop p list)) (drop p list) (drop-within i (drop p list)) x (subst (Member x) again m));
+            b.within x (after_within kept (drop i (drop p list)) (drop p list) (drop_within i (drop p list)) x (subst (Member x) again m));
       }

@@ -11,8 +11,8 @@ use Rattle.meaning.proofs.Lists.{after_within}
 use Rattle.decision.specs.Citations.{Turns}
 
 module _ {X : Type 0} where
-  pub drop-within : (i : ℕ) (xs : List X) → Within (drop i xs) xs
-  drop-within i xs x m = subst (Member x) (take-append-drop i xs) (member_right x (take i xs) (drop i xs) m)
+  pub drop_within : (i : ℕ) (xs : List X) → Within (drop i xs) xs
+  drop_within i xs x m = subst (Member x) (take-append-drop i xs) (member_right x (take i xs) (drop i xs) m)
 
   -- one step of the pass
   module _ (fits : List X → Bool) (before : List X) (n : ℕ) (x : X) (rest : List X) where

@@ -3,16 +3,16 @@ use Rattle.std.proofs.Common.{◌≡◌, ℕ, ◌+◌, ◌<◌, ◌≤◌, Bool,
 use Rattle.std.proofs.lemmas.List.{get_or-replicate, get_or-set_other, get_or-set_same}
 use Rattle.std.proofs.lemmas.Bool.{both_ways, cases_Bool, cases_eq, cases_lt, eq-eqb, eqb-true, false≢true}
 use Rattle.links.specs.Lists.{Member, present}
-use Rattle.links.proofs.Lists.{any_from, any-has}
+use Rattle.links.proofs.Lists.{any_from, any_has}
 use Rattle.arrangement.specs.Meaning.{Lawful, Meaning, lowest, same}
-use Rattle.arrangement.specs.Lowest.{lowest-le, lowest-same, lowest_twice}
+use Rattle.arrangement.specs.Lowest.{lowest-le, lowest_same, lowest_twice}
 use Rattle.statement.specs.declared.Statement.{Statement}
 use Rattle.statement.specs.declared.Statement.TheVariants.{W, R, E, D}
 use Rattle.meaning.specs.declared.column.Column.{Column}
 use Rattle.meaning.specs.declared.column.Column.TheVariants.{Elsewhere}
 use Rattle.meaning.specs.Columns.{at, clash_at, here, link_at, links_at, mark_at, marks_at}
 use Rattle.meaning.specs.Fillings.{Named, Setting, is_within, slot_of}
-use Rattle.meaning.proofs.ColumnList.{has_at, has-elsewhere}
+use Rattle.meaning.proofs.ColumnList.{has_at, has_elsewhere}
 use Rattle.meaning.proofs.Sound.{slot_named}
 use Rattle.column.specs.declared.sight.Sight.{Sight}
 use Rattle.column.specs.Sights.{Readable, Seen, SeenAt}
@@ -20,10 +20,10 @@ use Rattle.column.proofs.Seeing.{clash_is, is_named_lem}
 use Rattle.decision.specs.Looks.{AllSeen, Loud, OfColumn, is_named_in, leads}
 use Rattle.decision.specs.declared.sights.Sights.{Sights}
 
-present-same : {X Y : Type 0} (f g : X → Option Y) (xs : List X) → ((x : X) → Member x xs → f x ≡ g x) → present (map f xs) ≡ present (map g xs)
-present-same f g [] h = refl
-present-same {X} {Y} f g (x ∷ xs) h =
-    ap (λ (o : Option Y). present (o ∷ map f xs)) (h x (inl refl)) ∙ more (present-same f g xs (λ y m. h y (inr m))) (g x)
+present_same : {X Y : Type 0} (f g : X → Option Y) (xs : List X) → ((x : X) → Member x xs → f x ≡ g x) → present (map f xs) ≡ present (map g xs)
+present_same f g [] h = refl
+present_same {X} {Y} f g (x ∷ xs) h =
+    ap (λ (o : Option Y). present (o ∷ map f xs)) (h x (inl refl)) ∙ more (present_same f g xs (λ y m. h y (inr m))) (g x)
   where
     more : present (map f xs) ≡ present (map g xs) → (o : Option Y) → present (o ∷ map f xs) ≡ present (o ∷ map g xs)
     more rest None = rest
@@ -36,7 +36,7 @@ module _ (w : Setting) (law : Lawful w.slots) (xs : List Statement) (named : Nam
   -- a class that a statement names is a column
   pub named_class : is_named_in m xs c ≡ true → (c < m.size) × (lowest m c ≡ c)
   named_class h =
-      let r = any-has (λ x. leads m c (slot_of x)) xs h in
+      let r = any_has (λ x. leads m c (slot_of x)) xs h in
       go (slot_of r.0) refl (slot_named w r.0 (named r.0 r.1)) r.2
     where
       go : (o : Option ℕ) → (p : o ≡ o) → ((i : ℕ) → o ≡ Some i → i < m.size) → leads m c o ≡ true → (c < m.size) × (lowest m c ≡ c)
@@ -51,7 +51,7 @@ module _ (w : Setting) (law : Lawful w.slots) (xs : List Statement) (named : Nam
     not_here x k i e =
         elim (cases_Bool (same m c i)) [
           | inl h ↦
-              let one : lowest m i ≡ c = sym (lowest-same m law c i h) ∙ low in
+              let one : lowest m i ≡ c = sym (lowest_same m law c i h) ∙ low in
               absurd (both_ways (is_named_in m xs c) absent
               (any_from (λ x. leads m c (slot_of x)) xs x k (ap (leads m c) e ∙ eq-eqb (lowest m i) c one)))
           | inr h ↦ h
@@ -69,18 +69,18 @@ module _ (w : Setting) (law : Lawful w.slots) (xs : List Statement) (named : Nam
     same_mark (E a b) k = refl
     same_mark (D a b) k = refl
 
-    same-links : links_at w xs (at c) ≡ links_at w xs Elsewhere
+    same_links : links_at w xs (at c) ≡ links_at w xs Elsewhere
     unfolding links_at
-    same-links = present-same (link_at w (at c)) (link_at w Elsewhere) xs same_link
+    same_links = present_same (link_at w (at c)) (link_at w Elsewhere) xs same_link
 
     same_marks : marks_at w xs (at c) ≡ marks_at w xs Elsewhere
     unfolding marks_at
-    same_marks = present-same (mark_at w (at c)) (mark_at w Elsewhere) xs same_mark
+    same_marks = present_same (mark_at w (at c)) (mark_at w Elsewhere) xs same_mark
 
     pub as_elsewhere : (s : Sight) → SeenAt w xs Elsewhere s → SeenAt w xs (at c) s
     as_elsewhere s seen =
         subst (λ (M : List (ℕ × ℕ)). Seen w.readings (links_at w xs (at c)) M s) (sym same_marks)
-        (subst (λ (L : List (ℕ × ℕ)). Seen w.readings L (marks_at w xs Elsewhere) s) (sym same-links) seen)
+        (subst (λ (L : List (ℕ × ℕ)). Seen w.readings L (marks_at w xs Elsewhere) s) (sym same_links) seen)
 
 -- a sight that clashes is of a column that does
 pub clash_at_lem : (w : Setting) → Lawful w.readings → (xs : List Statement) (k : Column) (s : Sight) → SeenAt w xs k s → s.clash ≡ clash_at w xs k
@@ -101,7 +101,7 @@ module _ (w : Setting) (law : Lawful w.slots) (xs : List Statement) (named : Nam
     later = λ k l u d. get_or-replicate 64 k elsewhere d u;
     only = λ k u d.
         subst (OfColumn w xs) (sym (get_or-replicate 64 k elsewhere d u))
-        (record { column = Elsewhere; among = has-elsewhere w; seen = nowhere; calm = calm });
+        (record { column = Elsewhere; among = has_elsewhere w; seen = nowhere; calm = calm });
   }
 
   module _ (c : ℕ) (each : List Sight) (below : SeenBelow w xs elsewhere c each) (small : c < 64) where
@@ -121,9 +121,9 @@ module _ (w : Setting) (law : Lawful w.slots) (xs : List Statement) (named : Nam
       only = below.only;
     }
 
-    pub seen-set : length each ≡ 64 → (s : Sight) → SeenAt w xs (at c) s → s.clash ≡ false → is_named_in w.slots xs c ≡ true
+    pub seen_set : length each ≡ 64 → (s : Sight) → SeenAt w xs (at c) s → s.clash ≡ false → is_named_in w.slots xs c ≡ true
         → SeenBelow w xs elsewhere (c + 1) (set each c s)
-    seen-set long s seen quiet present = record {
+    seen_set long s seen quiet present = record {
       classes = one_more (λ k. lowest w.slots k ≡ k → (d : Sight) → SeenAt w xs (at k) (get_or (set each c s) k d))
           (λ k l low d.
           let ne : k ≢ c = omega arith in
@@ -151,13 +151,13 @@ module _ (w : Setting) (law : Lawful w.slots) (xs : List Statement) (named : Nam
 
 pub loud_at : (w : Setting) → Lawful w.slots → Lawful w.readings → (xs : List Statement) → Named w xs → (c : ℕ) → is_named_in w.slots xs c ≡ true
     → (s : Sight) → SeenAt w xs (at c) s → s.clash ≡ true → Loud w xs
-loud_at w law lawR xs named c present s seen h =
+loud_at w law readings xs named c present s seen h =
     let r = named_class w law xs named c present in
-    record { column = at c; among = has_at w c r.0 r.1; clash = sym (clash_at_lem w lawR xs (at c) s seen) ∙ h }
+    record { column = at c; among = has_at w c r.0 r.1; clash = sym (clash_at_lem w readings xs (at c) s seen) ∙ h }
 
 pub loud_elsewhere : (w : Setting) → Lawful w.readings → (xs : List Statement) (s : Sight) → SeenAt w xs Elsewhere s → s.clash ≡ true → Loud w xs
-loud_elsewhere w lawR xs s seen h =
-    record { column = Elsewhere; among = has-elsewhere w; clash = sym (clash_at_lem w lawR xs Elsewhere s seen) ∙ h }
+loud_elsewhere w readings xs s seen h =
+    record { column = Elsewhere; among = has_elsewhere w; clash = sym (clash_at_lem w readings xs Elsewhere s seen) ∙ h }
 
 pub readable_one : (w : Setting) (xs : List Statement) (x : Statement) → Readable w xs → Member x xs → Readable w (x ∷ [])
 readable_one w xs x readable m y (inl e) = subst (λ (z : Statement). is_within 128 w z ≡ true) e (readable x m)

@@ -9,7 +9,7 @@ use Rattle.meaning.specs.declared.column.Column.{Column}
 use Rattle.meaning.specs.declared.column.Column.TheVariants.{Elsewhere}
 use Rattle.meaning.specs.Columns.{alike_at, clash_at, columns, difference, differences, links_at, marks_at, parted, test}
 use Rattle.meaning.specs.Fillings.{Orderly, Setting}
-use Rattle.meaning.proofs.ColumnList.{column_cases, has-elsewhere}
+use Rattle.meaning.proofs.ColumnList.{column_cases, has_elsewhere}
 use Rattle.column.specs.declared.sight.Sight.{Sight}
 use Rattle.column.specs.Sights.{Readable, SeenAt, given, seem_alike}
 use Rattle.column.proofs.Parts.{member_at}
@@ -91,7 +91,7 @@ module _ (w : Setting) (laws : Orderly w) (xs : List Statement) (s : Sights) (se
         ]))
         (λ h.
         and_from (seem s.elsewhere) (all_of seem s.each)
-        (seem_is Elsewhere s.elsewhere seen.nowhere seen.calm ∙ all_has (alike_at w xs p) (columns w) Elsewhere h (has-elsewhere w))
+        (seem_is Elsewhere s.elsewhere seen.nowhere seen.calm ∙ all_has (alike_at w xs p) (columns w) Elsewhere h (has_elsewhere w))
         (all_places seem s.each (λ i l d.
         let r = seen.only i l d in
         seem_is r.column (get_or s.each i d) r.seen r.calm ∙ all_has (alike_at w xs p) (columns w) r.column h r.among)))

@@ -3,8 +3,8 @@ use Rattle.std.proofs.Common.{◌≡◌, ℕ, zero, suc, ◌+◌, ◌<◌, ◌�
 use Rattle.std.proofs.lemmas.Bool.{both_ways, cases_Bool, cases_lt, cond_both, false≢true, or_left, or_right, or_cases, eq-eqb, eqb-true}
 use Rattle.links.specs.Lists.{Member, any_of}
 use Rattle.links.specs.Chains.{Chain, Linked, has, spread, reached, within, joined, seek, fewest, Nearest}
-use Rattle.links.proofs.Lists.{any_from, any-has}
-use Rattle.links.proofs.Reach.{Closed, bit, bit_le, bit_mono, has_self, spread_keeps, spread_puts, chain-reached, reached_later, reached-chain, joined_finds, closed_chain}
+use Rattle.links.proofs.Lists.{any_from, any_has}
+use Rattle.links.proofs.Reach.{Closed, bit, bit_le, bit_mono, has_self, spread_keeps, spread_puts, chain_reached, reached_later, reached_chain, joined_finds, closed_chain}
 
 has_member : (x : ℕ) (ys : List ℕ) → has x ys ≡ true → Member x ys
 has_member x [] h = absurd (false≢true h)
@@ -61,7 +61,7 @@ module _ (links : List (ℕ × ℕ)) (goal : ℕ → Bool) (a : ℕ) where
   has_hit d b h g = any_from goal (reached links d a) b (has_member b (reached links d a) h) g
 
   chain_hit : (b n : ℕ) → Chain links a b n → goal b ≡ true → hit n ≡ true
-  chain_hit b n ch g = has_hit n b (chain-reached links a b n ch) g
+  chain_hit b n ch g = has_hit n b (chain_reached links a b n ch) g
 
   -- a goal that a chain leads to is hit in as many rounds as there are links
   joined_hit : (b n : ℕ) → Chain links a b n → goal b ≡ true → hit (length links) ≡ true
@@ -70,8 +70,8 @@ module _ (links : List (ℕ × ℕ)) (goal : ℕ → Bool) (a : ℕ) where
 
   hit_chain : (m : ℕ) → hit m ≡ true → (b : ℕ) × (goal b ≡ true) × ((n : ℕ) × (n ≤ m) × Chain links a b n)
   hit_chain m h =
-      let r = any-has goal (reached links m a) h in
-      (r.0, r.2, reached-chain links a m r.0 (member_has r.0 (reached links m a) r.1))
+      let r = any_has goal (reached links m a) h in
+      (r.0, r.2, reached_chain links a m r.0 (member_has r.0 (reached links m a) r.1))
 
   -- the first hit is as many rounds away as a shortest chain has links
   first_nearest : (r : Option ℕ) → First hit (length links) 0 r → Nearest links goal a r
@@ -187,7 +187,7 @@ module _ (links : List (ℕ × ℕ)) (goal : ℕ → Bool) (count a m : ℕ) (in
       let best = some_nearest links goal a m found in
       let b = best.0.0 in
       let start = reached_later links a a 0 d (omega arith) (has_self a []) in
-      let early = reached-chain links a d b (closed_chain links (reached links d a) a b m closed start best.0.2) in
+      let early = reached_chain links a d b (closed_chain links (reached links d a) a b m closed start best.0.2) in
       omega (arith, early.1, best.1 b early.0 early.2 best.0.1)
 
   -- so each round before the goal adds one
@@ -200,9 +200,9 @@ module _ (links : List (ℕ × ℕ)) (goal : ℕ → Bool) (count a m : ℕ) (in
         | inr full ↦ absurd (unfinished d l (λ b c k h. full c (ends b c k) (spread_puts links R b c h k)))
       ]
 
-  pub fewest-below : m < count
-  fewest-below = omega (arith, each_adds m (omega arith), tally_le count (reached links m a))
+  pub fewest_below : m < count
+  fewest_below = omega (arith, each_adds m (omega arith), tally_le count (reached links m a))
 
 -- a shortest chain between names below a count has fewer links than that
 pub short : (links : List (ℕ × ℕ)) (count a b m : ℕ) → a < count → ((x y : ℕ) → Linked links x y → y < count) → fewest links (λ y. eqb y b) a ≡ Some m → m < count
-short links count a b m inside ends found = fewest-below links (λ y. eqb y b) count a m inside ends found
+short links count a b m inside ends found = fewest_below links (λ y. eqb y b) count a m inside ends found

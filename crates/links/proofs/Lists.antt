@@ -9,12 +9,12 @@ module _ {X : Type 0} (p : X → Bool) where
   any_from (y ∷ ys) x (inl e) h = or_left (p y) (any_of p ys) (ap p e ∙ h)
   any_from (y ∷ ys) x (inr m) h = or_right (p y) (any_of p ys) (any_from ys x m h)
 
-  pub any-has : (xs : List X) → any_of p xs ≡ true → (x : X) × Member x xs × (p x ≡ true)
-  any-has [] h = absurd (false≢true h)
-  any-has (y ∷ ys) h =
+  pub any_has : (xs : List X) → any_of p xs ≡ true → (x : X) × Member x xs × (p x ≡ true)
+  any_has [] h = absurd (false≢true h)
+  any_has (y ∷ ys) h =
       elim (or_cases (p y) (any_of p ys) h) [
         | inl e ↦ (y, inl refl, e)
-        | inr e ↦ let r = any-has ys e in (r.0, inr r.1, r.2)
+        | inr e ↦ let r = any_has ys e in (r.0, inr r.1, r.2)
       ]
 
   pub all_has : (xs : List X) (x : X) → all_of p xs ≡ true → Member x xs → p x ≡ true

@@ -102,9 +102,9 @@ chain_turn L a b n none = none
 chain_turn L a b n (next {b = x} {n = k} p l) = subst (Chain L b a) (one-add k) (chain_join L b x a 1 k (next none (linked_turn L x b l)) (chain_turn L a x k p))
 
 -- rounds and chains
-pub chain-reached : (L : Links) (a b n : ℕ) → Chain L a b n → has b (reached L n a) ≡ true
-chain-reached L a b n none = has_self a []
-chain-reached L a b n (next {b = x} {n = m} p l) = spread_puts L (reached L m a) x b (chain-reached L a x m p) l
+pub chain_reached : (L : Links) (a b n : ℕ) → Chain L a b n → has b (reached L n a) ≡ true
+chain_reached L a b n none = has_self a []
+chain_reached L a b n (next {b = x} {n = m} p l) = spread_puts L (reached L m a) x b (chain_reached L a x m p) l
 
 pub reached_later : (L : Links) (a b n d : ℕ) → n ≤ d → has b (reached L n a) ≡ true → has b (reached L d a) ≡ true
 reached_later L a b n zero l h = let e : n ≡ 0 = omega arith in subst (λ k. has b (reached L k a) ≡ true) e h
@@ -117,17 +117,17 @@ reached_later L a b n (suc d) l h =
 abbrev pub Short : Links → ℕ → ℕ → ℕ → Type 0
 Short L a d b = (n : ℕ) × (n ≤ d) × Chain L a b n
 
-pub reached-chain : (L : Links) (a d b : ℕ) → has b (reached L d a) ≡ true → Short L a d b
-reached-chain L a zero b h =
+pub reached_chain : (L : Links) (a d b : ℕ) → has b (reached L d a) ≡ true → Short L a d b
+reached_chain L a zero b h =
     elim (or_cases (eqb b a) false h) [
       | inl e ↦ (0, omega arith, subst (λ x. Chain L a x 0) (sym (eqb-true b a e)) none)
       | inr e ↦ absurd (false≢true e)
     ]
-reached-chain L a (suc d) b h =
+reached_chain L a (suc d) b h =
     elim (spread_cases L (reached L d a) b h) [
-      | inl k ↦ let r = reached-chain L a d b k in (r.0, omega arith, r.2)
+      | inl k ↦ let r = reached_chain L a d b k in (r.0, omega arith, r.2)
       | inr k ↦
-          let r = reached-chain L a d k.0 k.1 in
+          let r = reached_chain L a d k.0 k.1 in
           (suc r.0, omega arith, next r.2 k.2)
     ]
 
@@ -247,12 +247,12 @@ closed_chain L R a b n cl h (next {b = x} p l) = cl x b l (closed_chain L R a x 
 pub within_finds : (L : Links) (d a b : ℕ) → (within L d a b ≡ true) ↔ ((n : ℕ) × (n ≤ d) × Chain L a b n)
 unfolding within
 within_finds L d a b =
-    (λ h. reached-chain L a d b h, λ r. reached_later L a b r.0 d r.1 (chain-reached L a b r.0 r.2))
+    (λ h. reached_chain L a d b h, λ r. reached_later L a b r.0 d r.1 (chain_reached L a b r.0 r.2))
 
 pub joined_finds : (L : Links) (a b : ℕ) → (joined L a b ≡ true) ↔ Joins L a b
 unfolding joined within
 joined_finds L a b = (
-  λ h. let r = reached-chain L a (length L) b h in (r.0, r.2),
+  λ h. let r = reached_chain L a (length L) b h in (r.0, r.2),
   λ r. closed_chain L (reached L (length L) a) a b r.0 (all_reached L a)
       (reached_later L a a 0 (length L) (omega arith) (has_self a [])) r.1,
 )

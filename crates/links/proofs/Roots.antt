@@ -21,25 +21,25 @@ module _ (L : Links) where
   unfolding lowest_joined
   lowest_in t = low_in (joined L) (joined_turn L) (joined_through L) t (joined_self L t)
 
-  pub lowest-least : (t u : ℕ) → joined L u t ≡ true → lowest_joined L t ≤ u
+  pub lowest_least : (t u : ℕ) → joined L u t ≡ true → lowest_joined L t ≤ u
   unfolding lowest_joined
-  lowest-least t u h = low_least (joined L) (joined_turn L) (joined_through L) t u h
+  lowest_least t u h = low_least (joined L) (joined_turn L) (joined_through L) t u h
 
-  pub lowest-same : (a b : ℕ) → joined L a b ≡ true → lowest_joined L a ≡ lowest_joined L b
+  pub lowest_same : (a b : ℕ) → joined L a b ≡ true → lowest_joined L a ≡ lowest_joined L b
   unfolding lowest_joined
-  lowest-same a b h = low_same (joined L) (joined_turn L) (joined_through L) a b h
+  lowest_same a b h = low_same (joined L) (joined_turn L) (joined_through L) a b h
 
   pub lowest_back : (a b : ℕ) → lowest_joined L a ≡ lowest_joined L b → joined L a b ≡ true
   unfolding lowest_joined
   lowest_back a b h = low_back (joined L) (joined_turn L) (joined_through L) a b (joined_self L a) (joined_self L b) h
 
-  pub lowest-only : (t r : ℕ) → joined L r t ≡ true → ((u : ℕ) → joined L u t ≡ true → r ≤ u) → r ≡ lowest_joined L t
-  lowest-only t r h k = omega (arith, lowest-least t r h, k (lowest_joined L t) (lowest_in t))
+  pub lowest_only : (t r : ℕ) → joined L r t ≡ true → ((u : ℕ) → joined L u t ≡ true → r ≤ u) → r ≡ lowest_joined L t
+  lowest_only t r h k = omega (arith, lowest_least t r h, k (lowest_joined L t) (lowest_in t))
 
 -- with no links each name is alone
 pub alone : (t : ℕ) → t ≡ lowest_joined [] t
 alone t =
-    lowest-only [] t t (joined_self [] t) (λ u h.
+    lowest_only [] t t (joined_self [] t) (λ u h.
     let r = (joined_finds [] u t).0 h in
     omega (arith, chain_keeps (λ n. n) [] (λ p m. absurd m) u t r.0 r.1))
 
@@ -93,7 +93,7 @@ module _ (L : Links) (x y lo hi : ℕ) (order : lo ≤ hi) (ends : ((lowest_join
   keeps p m = go (member_cases p L ((x, y) ∷ []) m)
     where
       go : Member p L ⊎ Member p ((x, y) ∷ []) → new p.0 ≡ new p.1
-      go (inl k) = ap (λ r. cond (eqb r hi) lo r) (lowest-same L p.0 p.1 (joined_link L p.0 p.1 (inl k)))
+      go (inl k) = ap (λ r. cond (eqb r hi) lo r) (lowest_same L p.0 p.1 (joined_link L p.0 p.1 (inl k)))
       go (inr (inl e)) = subst (λ (p : ℕ × ℕ). new p.0 ≡ new p.1) e ends_same
       go (inr (inr k)) = absurd k
 
@@ -115,9 +115,9 @@ module _ (L : Links) (x y lo hi : ℕ) (order : lo ≤ hi) (ends : ((lowest_join
         | inr k ↦ subst (λ r. joined K r t ≡ true) (sym (new_other t k)) (root_in t (lowest_joined L t) refl)
       ]
 
-  pub lowest-joined : (t : ℕ) → new t ≡ lowest_joined K t
-  lowest-joined t =
-      lowest-only K t (new t) (new_in t) (λ u h.
+  pub lowest_is_joined : (t : ℕ) → new t ≡ lowest_joined K t
+  lowest_is_joined t =
+      lowest_only K t (new t) (new_in t) (λ u h.
       let r = (joined_finds K u t).0 h in
       omega (arith, chain_keeps new K keeps u t r.0 r.1, new_le u))
 
@@ -138,11 +138,11 @@ module _ (root : List ℕ) (long : length root ≡ 128) where
         | inr ne ↦ omega (arith, at, ap (λ b. cond b new (get_or root t 0)) (ne_eqb (get_or root t 0) old ne), down t within)
       ]
 
-  pub roots-merged : (L : Links) (x y : ℕ) → x < 128 → y < 128 → Roots L root → Roots (L ++ ((x, y) ∷ [])) (merged root x y)
-  roots-merged L x y a b roots =
+  pub roots_merged : (L : Links) (x y : ℕ) → x < 128 → y < 128 → Roots L root → Roots (L ++ ((x, y) ∷ [])) (merged root x y)
+  roots_merged L x y a b roots =
       let p : lowest_joined L x ≡ root_of root x = sym (root_is x a ∙ roots.low x a) in
       let q : lowest_joined L y ≡ root_of root y = sym (root_is y b ∙ roots.low y b) in
       let lo = min (root_of root x) (root_of root y) in
       let hi = max (root_of root x) (root_of root y) in
       let ends : ((lowest_joined L x ≡ lo) × (lowest_joined L y ≡ hi)) ⊎ ((lowest_joined L x ≡ hi) × (lowest_joined L y ≡ lo)) = elim (cases_lt (root_of root x) (root_of root y)) [ inl k ↦ inl (omega arith, omega arith) | inr k ↦ inr (omega arith, omega arith) ] in
-      record { low = λ t within. relabelled_at hi lo t within ∙ ap (label_for hi lo) (roots.low t within) ∙ lowest-joined L x y lo hi (omega arith) ends t }
+      record { low = λ t within. relabelled_at hi lo t within ∙ ap (label_for hi lo) (roots.low t within) ∙ lowest_is_joined L x y lo hi (omega arith) ends t }

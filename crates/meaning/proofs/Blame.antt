@@ -8,21 +8,21 @@ use Rattle.meaning.specs.Answers.{at_positions, cited, staying}
 use Rattle.meaning.specs.Columns.{test}
 use Rattle.meaning.specs.Fillings.{Fillable, Named, Orderly, Setting}
 use Rattle.meaning.specs.Theorems.{Blames, CitedIsToBlame, Likewise, PartsFit, Rising, Within, omit}
-use Rattle.meaning.proofs.Deciding.{fillable_passes, never-fails, passes_fillable}
-use Rattle.meaning.proofs.Lists.{after_within, omit-within, within_more}
+use Rattle.meaning.proofs.Deciding.{fillable_passes, never_fails, passes_fillable}
+use Rattle.meaning.proofs.Lists.{after_within, omit_within, within_more}
 use Rattle.meaning.proofs.Transfer.{carried}
 
 -- what fits a list fits a part of it
-part-fits : (w : Setting) (xs ys : List Statement) → Within xs ys → Fillable w ys → Fillable w xs
-part-fits w xs ys within f = (
+part_fits : (w : Setting) (xs ys : List Statement) → Within xs ys → Fillable w ys → Fillable w xs
+part_fits w xs ys within f = (
   f.0,
   record { slots = f.1.slots; readings = f.1.readings; fits = λ x m. f.1.fits x (within x m) },
 )
 
 pub parts_fit : PartsFit
 parts_fit = record {
-  part = part-fits;
-  order = λ w xs ys there back. (part-fits w ys xs back, part-fits w xs ys there);
+  part = part_fits;
+  order = λ w xs ys there back. (part_fits w ys xs back, part_fits w xs ys there);
 }
 
 -- What stays of a list, and where it stands.
@@ -144,11 +144,11 @@ module _ {X : Type 0} where
       go false ih = ih before
 
   -- the positions rise
-  staying-rising : (fits : List X → Bool) (before rest : List X) (low n high : ℕ) → low < n → n + length rest ≤ suc high
+  staying_rising : (fits : List X → Bool) (before rest : List X) (low n high : ℕ) → low < n → n + length rest ≤ suc high
       → Rising low high (staying fits before n rest)
-  staying-rising fits before [] low n high l u = tt
-  staying-rising fits before (y ∷ rest) low n high l u =
-      go (fits (before ++ rest)) (λ b m k. staying-rising fits (cond b (before ++ y ∷ []) before) rest m (suc n) high k (omega arith))
+  staying_rising fits before [] low n high l u = tt
+  staying_rising fits before (y ∷ rest) low n high l u =
+      go (fits (before ++ rest)) (λ b m k. staying_rising fits (cond b (before ++ y ∷ []) before) rest m (suc n) high k (omega arith))
     where
       go : (t : Bool) → ((b : Bool) (m : ℕ) → m < suc n → Rising m high (staying fits (cond b (before ++ y ∷ []) before) (suc n) rest))
           → Rising low high
@@ -166,7 +166,7 @@ module _ (w : Setting) (laws : Orderly w) (xs : List Statement) (offered : State
   pub fewer_fit : (ys zs : List Statement) → Within ys zs → Within zs xs → fits zs ≡ true → fits ys ≡ true
   fewer_fit ys zs v u h =
       fillable_passes w laws (offered ∷ ys) (named_part ys (λ x m. u x (v x m)))
-      (part-fits w (offered ∷ ys) (offered ∷ zs) (within_more offered ys zs v) (passes_fillable w laws (offered ∷ zs) (named_part zs u) h))
+      (part_fits w (offered ∷ ys) (offered ∷ zs) (within_more offered ys zs v) (passes_fillable w laws (offered ∷ zs) (named_part zs u) h))
 
   module _ (never : ¬ Fillable w (offered ∷ xs)) where
     abbrev stay : List Statement
@@ -177,13 +177,13 @@ module _ (w : Setting) (laws : Orderly w) (xs : List Statement) (offered : State
 
     against : (w' : Setting) → Likewise w w' (offered ∷ stay) → ¬ Fillable w' (offered ∷ stay)
     against w' alike f =
-        both_ways (fits stay) (kept_fails fits [] xs (never-fails w laws (offered ∷ xs) named never))
+        both_ways (fits stay) (kept_fails fits [] xs (never_fails w laws (offered ∷ xs) named never))
         (fillable_passes w laws (offered ∷ stay) (named_part stay stay_within)
         (carried w w' (offered ∷ stay) laws.slots laws.readings alike f))
 
     minimal : (i : ℕ) → i < length stay → Fillable w (offered ∷ omit i stay)
     minimal i l =
-        passes_fillable w laws (offered ∷ omit i stay) (named_part (omit i stay) (λ x m. stay_within x (omit-within i stay x m)))
+        passes_fillable w laws (offered ∷ omit i stay) (named_part (omit i stay) (λ x m. stay_within x (omit_within i stay x m)))
         (kept_minimal fits xs fewer_fit [] xs (λ x m. m) i l)
 
     blames : Blames w xs offered (cited w xs offered)
@@ -193,7 +193,7 @@ module _ (w : Setting) (laws : Orderly w) (xs : List Statement) (offered : State
         let reads : Reads xs ps stay = staying_reads fits [] [] xs 1 refl in
         let whole : at_positions xs ps ≡ stay = reads_at xs ps stay reads in
         record {
-          rising = staying-rising fits [] xs 0 1 (length xs) (omega arith) (omega arith);
+          rising = staying_rising fits [] xs 0 1 (length xs) (omega arith) (omega arith);
           against = λ w' alike f.
               against w' (subst (λ (ys : List Statement). Likewise w w' (offered ∷ ys)) whole alike)
               (subst (λ (ys : List Statement). Fillable w' (offered ∷ ys)) whole f);

@@ -4,9 +4,9 @@ use Rattle.std.proofs.lemmas.Bool.{cases_Bool}
 use Rattle.links.specs.Chains.{joined, lowest_joined}
 use Rattle.links.specs.Lists.{Member}
 use Rattle.links.proofs.Reach.{joined_finds, joined_self, joined_through, joined_turn}
-use Rattle.links.proofs.Roots.{lowest_back as joined_back, lowest-same as joined_same}
+use Rattle.links.proofs.Roots.{lowest_back as joined_back, lowest_same as joined_same}
 use Rattle.arrangement.specs.Meaning.{lowest, same}
-use Rattle.arrangement.specs.Lowest.{lowest_back, lowest-le, lowest-same}
+use Rattle.arrangement.specs.Lowest.{lowest_back, lowest-le, lowest_same}
 use Rattle.statement.specs.declared.Statement.{Statement}
 use Rattle.meaning.specs.declared.column.Column.{Column}
 use Rattle.meaning.specs.Answers.{cell, known, or_else, place}
@@ -30,9 +30,9 @@ module _ (w : Setting) (xs : List Statement) (k : Column) where
   abbrev fresh : ℕ → ℕ → ℕ
   fresh tables t = w.readings.size + place w k * tables + lowest_joined (links_at w xs k) t
 
-  cell-marked : (tables t : ℕ) (r : Marked t) → cell w tables xs k t ≡ lowest w.readings r.mark.1
+  cell_marked : (tables t : ℕ) (r : Marked t) → cell w tables xs k t ≡ lowest w.readings r.mark.1
   unfolding cell known
-  cell-marked tables t r = ap (λ o. or_else o (fresh tables t)) r.is
+  cell_marked tables t r = ap (λ o. or_else o (fresh tables t)) r.is
 
   cell_unmarked : (tables t : ℕ) → Unmarked t → cell w tables xs k t ≡ fresh tables t
   unfolding cell known
@@ -48,20 +48,20 @@ module _ (w : Setting) (laws : Orderly w) (xs : List Statement) (named : Named w
       ]
 
   -- equal numbers make tables alike
-  pub cell-alike : (tables a b : ℕ) → cell w tables xs k a ≡ cell w tables xs k b → AlikeAt w xs (a, b) k
-  cell-alike tables a b h = go (known_at w xs k a) (known_at w xs k b)
+  pub cell_alike : (tables a b : ℕ) → cell w tables xs k a ≡ cell w tables xs k b → AlikeAt w xs (a, b) k
+  cell_alike tables a b h = go (known_at w xs k a) (known_at w xs k b)
     where
       law : (v : ℕ) → lowest w.readings v ≤ v
       law = lowest-le w.readings laws.readings
 
       go : Marked w xs k a ⊎ Unmarked w xs k a → Marked w xs k b ⊎ Unmarked w xs k b → AlikeAt w xs (a, b) k
       go (inl p) (inl q) =
-          let e = sym (cell-marked w xs k tables a p) ∙ h ∙ cell-marked w xs k tables b q in
+          let e = sym (cell_marked w xs k tables a p) ∙ h ∙ cell_marked w xs k tables b q in
           inr (record {
             p = p.mark;
             q = q.mark;
-            marked-p = p.among;
-            marked-q = q.among;
+            marked_p = p.among;
+            marked_q = q.among;
             chain_a = (joined_finds (links_at w xs k) a p.mark.0).0 p.chain;
             chain_b = (joined_finds (links_at w xs k) b q.mark.0).0 q.chain;
             alike = lowest_back w.readings laws.readings p.mark.1 q.mark.1
@@ -72,7 +72,7 @@ module _ (w : Setting) (laws : Orderly w) (xs : List Statement) (named : Named w
             arith,
             law p.mark.1,
             marks_named w xs named k p.mark p.among,
-            cell-marked w xs k tables a p,
+            cell_marked w xs k tables a p,
             cell_unmarked w xs k tables b q,
             h,
           ))
@@ -82,7 +82,7 @@ module _ (w : Setting) (laws : Orderly w) (xs : List Statement) (named : Named w
             law q.mark.1,
             marks_named w xs named k q.mark q.among,
             cell_unmarked w xs k tables a p,
-            cell-marked w xs k tables b q,
+            cell_marked w xs k tables b q,
             h,
           ))
       go (inr p) (inr q) =
@@ -100,8 +100,8 @@ module _ (w : Setting) (laws : Orderly w) (xs : List Statement) (named : Named w
           | inr e ↦ absurd (calm (record {
             p = p;
             q = q;
-            marked-p = m;
-            marked-q = n;
+            marked_p = m;
+            marked_q = n;
             chain = (joined_finds (links_at w xs k) p.0 q.0).0 j;
             unlike = e;
           }))
@@ -111,13 +111,13 @@ module _ (w : Setting) (laws : Orderly w) (xs : List Statement) (named : Named w
     mark_cell tables p m =
         elim (known_at w xs k p.0) [
           | inl r ↦
-              cell-marked w xs k tables p.0 r
-              ∙ sym (lowest-same w.readings laws.readings p.1 r.mark.1 (marks_agree p r.mark m r.among r.chain))
+              cell_marked w xs k tables p.0 r
+              ∙ sym (lowest_same w.readings laws.readings p.1 r.mark.1 (marks_agree p r.mark m r.among r.chain))
           | inr r ↦ absurd (r.never p m (joined_self (links_at w xs k) p.0))
         ]
 
-    pub joined-cell : (tables a b : ℕ) → joined (links_at w xs k) a b ≡ true → cell w tables xs k a ≡ cell w tables xs k b
-    joined-cell tables a b h = go (known_at w xs k a) (known_at w xs k b)
+    pub joined_cell : (tables a b : ℕ) → joined (links_at w xs k) a b ≡ true → cell w tables xs k a ≡ cell w tables xs k b
+    joined_cell tables a b h = go (known_at w xs k a) (known_at w xs k b)
       where
         back : joined (links_at w xs k) b a ≡ true
         back = joined_turn (links_at w xs k) a b h
@@ -126,9 +126,9 @@ module _ (w : Setting) (laws : Orderly w) (xs : List Statement) (named : Named w
         go (inl p) (inl q) =
             let L = links_at w xs k in
             let j = joined_through L p.mark.0 a q.mark.0 (joined_turn L a p.mark.0 p.chain) (joined_through L a b q.mark.0 h q.chain) in
-            cell-marked w xs k tables a p
-            ∙ lowest-same w.readings laws.readings p.mark.1 q.mark.1 (marks_agree p.mark q.mark p.among q.among j)
-            ∙ sym (cell-marked w xs k tables b q)
+            cell_marked w xs k tables a p
+            ∙ lowest_same w.readings laws.readings p.mark.1 q.mark.1 (marks_agree p.mark q.mark p.among q.among j)
+            ∙ sym (cell_marked w xs k tables b q)
         go (inl p) (inr q) = absurd (q.never p.mark p.among (joined_through (links_at w xs k) b a p.mark.0 back p.chain))
         go (inr p) (inl q) = absurd (p.never q.mark q.among (joined_through (links_at w xs k) a b q.mark.0 h q.chain))
         go (inr p) (inr q) =

@@ -3,13 +3,13 @@ use Rattle.std.proofs.Common.{◌≡◌, ℕ, zero, suc, ◌<◌, ◌≤◌, Boo
 use Rattle.std.proofs.lemmas.Bool.{and_from, and_parts, both_ways, cases_lt, cases_order, eq-eqb, eqb-true, false≢true}
 use Rattle.links.specs.Lists.{Member}
 use Rattle.arrangement.specs.Meaning.{Lawful, Meaning, lowest, same}
-use Rattle.arrangement.specs.Lowest.{lowest_in, lowest-le, lowest-same, lowest_twice}
+use Rattle.arrangement.specs.Lowest.{lowest_in, lowest-le, lowest_same, lowest_twice}
 use Rattle.meaning.specs.declared.column.Column.{Column}
 use Rattle.meaning.specs.declared.column.Column.TheVariants.{Elsewhere}
 use Rattle.meaning.specs.Answers.{class_number, classes_below, column_numbered, column_of, numbered_below}
 use Rattle.meaning.specs.Columns.{at, columns, here}
 use Rattle.meaning.specs.Fillings.{Numbered, Setting}
-use Rattle.meaning.proofs.ColumnList.{column_cases, has_at, has-elsewhere}
+use Rattle.meaning.proofs.ColumnList.{column_cases, has_at, has_elsewhere}
 
 module _ (m : Meaning) where
   below_step : (c : ℕ) → classes_below m c ≤ classes_below m (suc c)
@@ -19,8 +19,8 @@ module _ (m : Meaning) where
         | false ↦ omega arith
       ]
 
-  below-lowest : (c : ℕ) → lowest m c ≡ c → classes_below m (suc c) ≡ suc (classes_below m c)
-  below-lowest c e = ap (λ b. cond b (suc (classes_below m c)) (classes_below m c)) (eq-eqb (lowest m c) c e)
+  below_lowest : (c : ℕ) → lowest m c ≡ c → classes_below m (suc c) ≡ suc (classes_below m c)
+  below_lowest c e = ap (λ b. cond b (suc (classes_below m c)) (classes_below m c)) (eq-eqb (lowest m c) c e)
 
   pub below_more : (c d : ℕ) → lowest m c ≡ c → c < d → classes_below m c < classes_below m d
   below_more c zero e l = absurd (omega arith)
@@ -29,11 +29,11 @@ module _ (m : Meaning) where
         | inl k ↦ omega (arith, below_more c d e k, below_step d)
         | inr k ↦
             let q : c ≡ d = omega arith in
-            subst (λ d. classes_below m c < classes_below m (suc d)) q (omega (arith, below-lowest c e))
+            subst (λ d. classes_below m c < classes_below m (suc d)) q (omega (arith, below_lowest c e))
       ]
 
-  pub below-same : (c d : ℕ) → lowest m c ≡ c → lowest m d ≡ d → classes_below m c ≡ classes_below m d → c ≡ d
-  below-same c d p q h =
+  pub below_same : (c d : ℕ) → lowest m c ≡ c → lowest m d ≡ d → classes_below m c ≡ classes_below m d → c ≡ d
+  below_same c d p q h =
       elim (cases_order c d) [
         | inl e ↦ e
         | inr o ↦ elim o [
@@ -86,7 +86,7 @@ module _ (w : Setting) (law : Lawful w.slots) where
   numbered_in n =
       elim (split n) [
         | inl r ↦ subst (λ k. Member k (columns w)) (sym r.4) (has_at w r.0 r.1 r.2)
-        | inr r ↦ subst (λ k. Member k (columns w)) (sym r.1) (has-elsewhere w)
+        | inr r ↦ subst (λ k. Member k (columns w)) (sym r.1) (has_elsewhere w)
       ]
 
   -- beyond the slot classes all numbers are elsewhere
@@ -110,13 +110,13 @@ module _ (w : Setting) (law : Lawful w.slots) where
   pub numbered_class : (c : ℕ) → c < S.size → lowest S c ≡ c → column_numbered w (classes_below S c) ≡ at c
   numbered_class c l h =
       elim (split (classes_below S c)) [
-        | inl r ↦ r.4 ∙ ap at (below-same S r.0 c r.2 h r.3)
+        | inl r ↦ r.4 ∙ ap at (below_same S r.0 c r.2 h r.3)
         | inr r ↦ absurd (r.0 c l h refl)
       ]
 
-  pub numbered-slot : (i : ℕ) → i < S.size → column_numbered w (class_number S i) ≡ column_of w i
+  pub numbered_slot : (i : ℕ) → i < S.size → column_numbered w (class_number S i) ≡ column_of w i
   unfolding class_number
-  numbered-slot i l = numbered_class (lowest S i) (omega (arith, lowest-le S law i)) (lowest_twice S law i l)
+  numbered_slot i l = numbered_class (lowest S i) (omega (arith, lowest-le S law i)) (lowest_twice S law i l)
 
   -- each column is a number's
   pub number_of : (k : Column) → Member k (columns w) → (n : ℕ) × (column_numbered w n ≡ k)
@@ -133,9 +133,9 @@ module _ (w : Setting) (law : Lawful w.slots) where
         | inl r ↦
             let c = r.0 in
             subst (λ k. (here w k i ≡ true) ↔ (classes_below S (lowest S i) ≡ n)) (sym r.4) (
-              (λ h. ap (classes_below S) (sym (lowest-same S law c i h) ∙ r.2) ∙ r.3),
+              (λ h. ap (classes_below S) (sym (lowest_same S law c i h) ∙ r.2) ∙ r.3),
               (λ e.
-                  let q = below-same S (lowest S i) c (lowest_twice S law i l) r.2 (e ∙ sym r.3) in
+                  let q = below_same S (lowest S i) c (lowest_twice S law i l) r.2 (e ∙ sym r.3) in
                   subst (λ x. same S x i ≡ true) q (lowest_in S law i l)),
             )
         | inr r ↦
@@ -145,12 +145,12 @@ module _ (w : Setting) (law : Lawful w.slots) where
             )
       ]
 
-  pub slots-numbered : Numbered S (class_number S)
+  pub slots_numbered : Numbered S (class_number S)
   unfolding class_number
-  slots-numbered i j l k = (
+  slots_numbered i j l k = (
     (λ h.
-        let q = below-same S (lowest S i) (lowest S j) (lowest_twice S law i l) (lowest_twice S law j k) h in
+        let q = below_same S (lowest S i) (lowest S j) (lowest_twice S law i l) (lowest_twice S law j k) h in
         law.through i (lowest S i) j (law.back (lowest S i) i (lowest_in S law i l))
         (subst (λ x. same S x j ≡ true) (sym q) (lowest_in S law j k))),
-    (λ h. ap (classes_below S) (lowest-same S law i j h)),
+    (λ h. ap (classes_below S) (lowest_same S law i j h)),
   )

@@ -9,10 +9,10 @@ use Rattle.meaning.specs.Columns.{at, columns, columns_below}
 use Rattle.meaning.specs.Fillings.{Setting}
 
 module _ (m : Meaning) where
-  below-elsewhere : (n : ℕ) → Member Elsewhere (columns_below m n)
-  below-elsewhere zero = inl refl
-  below-elsewhere (suc n) =
-      let ih = below-elsewhere n in
+  below_elsewhere : (n : ℕ) → Member Elsewhere (columns_below m n)
+  below_elsewhere zero = inl refl
+  below_elsewhere (suc n) =
+      let ih = below_elsewhere n in
       elim (eqb (lowest m n) n) as (λ b. Member Elsewhere (cond b (at n ∷ columns_below m n) (columns_below m n))) [
         | true ↦ inr ih
         | false ↦ ih
@@ -57,9 +57,9 @@ module _ (m : Meaning) where
       go ih false e r = column_more n k (ih r)
 
 module _ (w : Setting) where
-  pub has-elsewhere : Member Elsewhere (columns w)
+  pub has_elsewhere : Member Elsewhere (columns w)
   unfolding columns
-  has-elsewhere = below-elsewhere w.slots w.slots.size
+  has_elsewhere = below_elsewhere w.slots w.slots.size
 
   pub has_at : (c : ℕ) → c < w.slots.size → lowest w.slots c ≡ c → Member (at c) (columns w)
   unfolding columns

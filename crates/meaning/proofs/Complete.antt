@@ -4,15 +4,15 @@ use Rattle.std.proofs.lemmas.Bool.{and_parts, both_ways, cases_Bool, cond-false,
 use Rattle.links.specs.Lists.{Member, all_of}
 use Rattle.links.proofs.Lists.{all_fails, all_has}
 use Rattle.links.proofs.Reach.{joined_link}
-use Rattle.arrangement.specs.Lowest.{lowest_back, lowest-same}
+use Rattle.arrangement.specs.Lowest.{lowest_back, lowest_same}
 use Rattle.statement.specs.declared.Statement.{Statement}
 use Rattle.statement.specs.declared.Statement.TheVariants.{W, R, E, D}
 use Rattle.meaning.specs.declared.column.Column.{Column}
 use Rattle.meaning.specs.Answers.{column_numbered, filled}
 use Rattle.meaning.specs.Columns.{AlikeAt, ClashAt, alike_at, clash_at, columns, difference, differences, here, link_at, links_at, mark_at, marks_at, parted, test}
 use Rattle.meaning.specs.Fillings.{Equal, Filling, Fits, FitsAll, Named, Orderly, Setting, is_named}
-use Rattle.meaning.proofs.Cells.{cell-alike, joined-cell, mark_cell}
-use Rattle.meaning.proofs.ClassNumbers.{number_of, numbered_in, numbered_shows, slots-numbered}
+use Rattle.meaning.proofs.Cells.{cell_alike, joined_cell, mark_cell}
+use Rattle.meaning.proofs.ClassNumbers.{number_of, numbered_in, numbered_shows, slots_numbered}
 use Rattle.meaning.proofs.Lists.{present_from}
 use Rattle.meaning.proofs.Marks.{alike_means, clash_from}
 use Rattle.meaning.proofs.Sound.{Shows, slot_named}
@@ -69,7 +69,7 @@ module _ (w : Setting) (laws : Orderly w) (xs : List Statement) (named : Named w
         fits_from w (filled w tables xs) (column_numbered w) (numbered_shows w laws.slots) x (named x m) (record {
           link = λ n p h.
               let k = column_numbered w n in
-              joined-cell w laws xs named k (calm k (numbered_in w laws.slots n)) tables p.0 p.1
+              joined_cell w laws xs named k (calm k (numbered_in w laws.slots n)) tables p.0 p.1
               (joined_link (links_at w xs k) p.0 p.1 (inl (present_from (link_at w k) xs x p m h)));
           mark = λ n p h.
               let k = column_numbered w n in
@@ -77,13 +77,13 @@ module _ (w : Setting) (laws : Orderly w) (xs : List Statement) (named : Named w
           differ = λ p h equal.
               let r = unlike p (present_from difference xs x p m h) in
               let n = number_of w laws.slots r.0 r.1 in
-              r.2 (subst (AlikeAt w xs p) n.1 (cell-alike w laws xs named (column_numbered w n.0) tables p.0 p.1 (equal n.0)));
+              r.2 (subst (AlikeAt w xs p) n.1 (cell_alike w laws xs named (column_numbered w n.0) tables p.0 p.1 (equal n.0)));
         })
 
-    pub filled-fits : FitsAll w xs (filled w tables xs)
+    pub filled_fits : FitsAll w xs (filled w tables xs)
     unfolding filled
-    filled-fits = record {
-      slots = slots-numbered w laws.slots;
-      readings = λ i j l k. (lowest_back w.readings laws.readings i j l k, lowest-same w.readings laws.readings i j);
+    filled_fits = record {
+      slots = slots_numbered w laws.slots;
+      readings = λ i j l k. (lowest_back w.readings laws.readings i j l k, lowest_same w.readings laws.readings i j);
       fits = fitting;
     }

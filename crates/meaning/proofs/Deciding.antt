@@ -8,8 +8,8 @@ use Rattle.meaning.specs.Answers.{filled}
 use Rattle.meaning.specs.Columns.{AlikeThroughout, SomeClash, alike_at, clash_at, columns, differences, links_at, marks_at, parted, test}
 use Rattle.meaning.specs.Fillings.{Fillable, Named, Orderly, Setting}
 use Rattle.meaning.specs.Theorems.{ColumnsDecide, Decided}
-use Rattle.meaning.proofs.Complete.{filled-fits}
-use Rattle.meaning.proofs.Marks.{alike_means, clash-has}
+use Rattle.meaning.proofs.Complete.{filled_fits}
+use Rattle.meaning.proofs.Marks.{alike_means, clash_has}
 use Rattle.meaning.proofs.Sound.{no_clash, not_throughout}
 
 -- a test that fails names the reason
@@ -22,7 +22,7 @@ fails_why w xs h =
           inl (record {
             column = r.0;
             among = r.1;
-            clash = clash-has w.readings (links_at w xs r.0) (marks_at w xs r.0) (not-false (clash_at w xs r.0) r.2);
+            clash = clash_has w.readings (links_at w xs r.0) (marks_at w xs r.0) (not-false (clash_at w xs r.0) r.2);
           })
       | inr e ↦
           let r = all_fails (parted w xs) (differences xs) e in
@@ -41,17 +41,17 @@ module _ (w : Setting) (laws : Orderly w) (xs : List Statement) (named : Named w
   why_never (inr d) f = not_throughout w laws.slots xs f.0 f.1 named d
 
   pub passes_fillable : test w xs ≡ true → Fillable w xs
-  passes_fillable h = (filled w 0 xs, filled-fits w laws xs named h 0)
+  passes_fillable h = (filled w 0 xs, filled_fits w laws xs named h 0)
 
   pub fillable_passes : Fillable w xs → test w xs ≡ true
   fillable_passes f = elim (cases_Bool (test w xs)) [ inl e ↦ e | inr e ↦ absurd (why_never (fails_why w xs e) f) ]
 
-  pub never-fails : ¬ Fillable w xs → test w xs ≡ false
-  never-fails never = elim (cases_Bool (test w xs)) [ inl e ↦ absurd (never (passes_fillable e)) | inr e ↦ e ]
+  pub never_fails : ¬ Fillable w xs → test w xs ≡ false
+  never_fails never = elim (cases_Bool (test w xs)) [ inl e ↦ absurd (never (passes_fillable e)) | inr e ↦ e ]
 
   decided : Decided w xs
   decided = record {
-    never = (λ never. fails_why w xs (never-fails never), why_never);
+    never = (λ never. fails_why w xs (never_fails never), why_never);
     computed = (passes_fillable, fillable_passes);
   }
 

@@ -2,7 +2,7 @@
 use Rattle.std.proofs.Common.{◌≡◌, ℕ, zero, suc, Bool, true, false, cond, List, [], ◌∷◌, ◌++◌, map, Some, None, Option, sym, refl, ap, ◌∙◌, subst, inl, inr, arith}
 use Rattle.std.proofs.lemmas.Bool.{both_ways}
 use Rattle.links.specs.Lists.{Member, any_of, present}
-use Rattle.links.proofs.Lists.{any_from, any-has, member_cases, member_left, member_right}
+use Rattle.links.proofs.Lists.{any_from, any_has, member_cases, member_left, member_right}
 use Rattle.meaning.specs.Answers.{first_that}
 use Rattle.meaning.specs.Theorems.{Within, omit}
 
@@ -13,9 +13,9 @@ pub none_some : {X : Type 0} {x : X} → None ≡ Some x → ⊥
 none_some {X} {x} e = let z : ◌≡◌ {A = ℕ} 0 1 = cc in omega arith
 
 module _ {X Y : Type 0} (f : X → Option Y) where
-  pub present-has : (xs : List X) (y : Y) → Member y (present (map f xs)) → (x : X) × Member x xs × (f x ≡ Some y)
-  present-has [] y m = elim m [ ]
-  present-has (z ∷ zs) y m = go (present-has zs y) (f z) refl m
+  pub present_has : (xs : List X) (y : Y) → Member y (present (map f xs)) → (x : X) × Member x xs × (f x ≡ Some y)
+  present_has [] y m = elim m [ ]
+  present_has (z ∷ zs) y m = go (present_has zs y) (f z) refl m
     where
       go : (Member y (present (map f zs)) → (x : X) × Member x zs × (f x ≡ Some y))
           → (o : Option Y) → f z ≡ o → Member y (present (o ∷ map f zs)) → (x : X) × Member x (z ∷ zs) × (f x ≡ Some y)
@@ -36,8 +36,8 @@ module _ {X Y : Type 0} (f : X → Option Y) where
 module _ {X : Type 0} (p : X → X → Bool) where
   pub two_has : (xs : List X) → any_of (λ x. any_of (p x) xs) xs ≡ true → (x y : X) × Member x xs × Member y xs × (p x y ≡ true)
   two_has xs h =
-      let r = any-has (λ x. any_of (p x) xs) xs h in
-      let q = any-has (p r.0) xs r.2 in
+      let r = any_has (λ x. any_of (p x) xs) xs h in
+      let q = any_has (p r.0) xs r.2 in
       (r.0, q.0, r.1, q.1, q.2)
 
   pub two_from : (xs : List X) (x y : X) → Member x xs → Member y xs → p x y ≡ true → any_of (λ x. any_of (p x) xs) xs ≡ true
@@ -66,11 +66,11 @@ module _ {X : Type 0} where
   within_more x xs ys w z (inl e) = inl e
   within_more x xs ys w z (inr m) = inr (w z m)
 
-  pub omit-within : (i : ℕ) (xs : List X) → Within (omit i xs) xs
-  omit-within i [] x m = elim m [ ]
-  omit-within zero (y ∷ ys) x m = inr m
-  omit-within (suc i) (y ∷ ys) x (inl e) = inl e
-  omit-within (suc i) (y ∷ ys) x (inr m) = inr (omit-within i ys x m)
+  pub omit_within : (i : ℕ) (xs : List X) → Within (omit i xs) xs
+  omit_within i [] x m = elim m [ ]
+  omit_within zero (y ∷ ys) x m = inr m
+  omit_within (suc i) (y ∷ ys) x (inl e) = inl e
+  omit_within (suc i) (y ∷ ys) x (inr m) = inr (omit_within i ys x m)
 
   pub after_within : (before xs ys : List X) → Within xs ys → Within (before ++ xs) (before ++ ys)
   after_within before xs ys h x m =

@@ -15,9 +15,9 @@ module _ (m : Meaning) (links marks : List (ℕ × ℕ)) where
   abbrev clashing : ℕ × ℕ → ℕ × ℕ → Bool
   clashing p q = chained p.0 q.0 && not (same m p.1 q.1)
 
-  pub clash-has : clash m links marks ≡ true → Clash m links marks
+  pub clash_has : clash m links marks ≡ true → Clash m links marks
   unfolding clash
-  clash-has h =
+  clash_has h =
       let r = two_has clashing marks h in
       let p = r.0 in
       let q = r.1 in
@@ -25,8 +25,8 @@ module _ (m : Meaning) (links marks : List (ℕ × ℕ)) where
       record {
         p = p;
         q = q;
-        marked-p = r.2;
-        marked-q = r.3;
+        marked_p = r.2;
+        marked_q = r.3;
         chain = (joined_finds links p.0 q.0).0 both.0;
         unlike = not-true (same m p.1 q.1) both.1;
       }
@@ -34,7 +34,7 @@ module _ (m : Meaning) (links marks : List (ℕ × ℕ)) where
   pub clash_from : Clash m links marks → clash m links marks ≡ true
   unfolding clash
   clash_from c =
-      two_from clashing marks c.p c.q c.marked-p c.marked-q
+      two_from clashing marks c.p c.q c.marked_p c.marked_q
       (and_from (chained c.p.0 c.q.0) (not (same m c.p.1 c.q.1))
       ((joined_finds links c.p.0 c.q.0).1 c.chain) (not_from_false (same m c.p.1 c.q.1) c.unlike))
 
@@ -55,8 +55,8 @@ module _ (m : Meaning) (links marks : List (ℕ × ℕ)) where
         record {
           p = p;
           q = q;
-          marked-p = r.2;
-          marked-q = r.3;
+          marked_p = r.2;
+          marked_q = r.3;
           chain_a = (joined_finds links a p.0).0 chains.0;
           chain_b = (joined_finds links b q.0).0 chains.1;
           alike = both.1;
@@ -64,7 +64,7 @@ module _ (m : Meaning) (links marks : List (ℕ × ℕ)) where
 
     meet_from : MarkedAlike m links marks a b → meet ≡ true
     meet_from c =
-        two_from meeting marks c.p c.q c.marked-p c.marked-q
+        two_from meeting marks c.p c.q c.marked_p c.marked_q
         (and_from (chained a c.p.0 && chained b c.q.0) (same m c.p.1 c.q.1)
         (and_from (chained a c.p.0) (chained b c.q.0)
         ((joined_finds links a c.p.0).1 c.chain_a) ((joined_finds links b c.q.0).1 c.chain_b)) c.alike)

@@ -14,13 +14,13 @@ use Rattle.meaning.specs.Answers.{apart, bits_of, classes_below, column_numbered
 use Rattle.meaning.specs.Columns.{AlikeAt, alike_at, at, columns, columns_below, links_at, marks_at}
 use Rattle.meaning.specs.Fillings.{Fillable, Filling, FitsAll, Named, Orderly, Setting}
 use Rattle.meaning.specs.Theorems.{ApartIsGreatest, CanDiffer, Distinct, Limits}
-use Rattle.meaning.proofs.Cells.{cell-alike}
+use Rattle.meaning.proofs.Cells.{cell_alike}
 use Rattle.meaning.proofs.ClassNumbers.{numbered_beyond, numbered_class}
 use Rattle.meaning.proofs.ColumnList.{column_cases}
-use Rattle.meaning.proofs.Complete.{filled-fits}
+use Rattle.meaning.proofs.Complete.{filled_fits}
 use Rattle.meaning.proofs.Deciding.{fillable_passes}
 use Rattle.meaning.proofs.Marks.{alike_means}
-use Rattle.meaning.proofs.Sound.{Shows, alike-holds, some_column}
+use Rattle.meaning.proofs.Sound.{Shows, alike_holds, some_column}
 
 -- Counting: a list of distinct numbers, each with a partner of its own in another list, is no longer than that list.
 
@@ -82,10 +82,10 @@ kept_from {Y} p (z ∷ zs) y m = go (kept_from p zs y) (p z) refl m
     go ih true e (inr k) = let r = ih k in (inr r.0, r.1)
     go ih false e k = let r = ih k in (inr r.0, r.1)
 
-map-has : {X Y : Type 0} (g : X → Y) (xs : List X) (y : Y) → Member y (map g xs) → (x : X) × Member x xs × (g x ≡ y)
-map-has g [] y m = elim m [ ]
-map-has g (z ∷ zs) y (inl e) = (z, inl refl, e)
-map-has g (z ∷ zs) y (inr m) = let r = map-has g zs y m in (r.0, inr r.1, r.2)
+map_has : {X Y : Type 0} (g : X → Y) (xs : List X) (y : Y) → Member y (map g xs) → (x : X) × Member x xs × (g x ≡ y)
+map_has g [] y m = elim m [ ]
+map_has g (z ∷ zs) y (inl e) = (z, inl refl, e)
+map_has g (z ∷ zs) y (inr m) = let r = map_has g zs y m in (r.0, inr r.1, r.2)
 
 counting_above : (a n x : ℕ) → Member x (range_with_len a n) → a ≤ x
 counting_above a zero x m = elim m [ ]
@@ -155,15 +155,15 @@ module _ (w : Setting) (laws : Orderly w) (xs : List Statement) (named : Named w
   alike_at_lem k h = (alike_means w.readings (links_at w xs k) (marks_at w xs k) a b).0 h
 
   -- the filling that is built has different numbers wherever the tables are not alike
-  filled-unlike : (n : ℕ) → alike_at w xs (a, b) (column_numbered w n) ≡ false → ¬ ((filled w 0 xs).holds a n ≡ (filled w 0 xs).holds b n)
+  filled_unlike : (n : ℕ) → alike_at w xs (a, b) (column_numbered w n) ≡ false → ¬ ((filled w 0 xs).holds a n ≡ (filled w 0 xs).holds b n)
   unfolding filled alike_at
-  filled-unlike n h e =
+  filled_unlike n h e =
       let k = column_numbered w n in
       both_ways (alike_at w xs (a, b) k) h
-      ((alike_means w.readings (links_at w xs k) (marks_at w xs k) a b).1 (cell-alike w laws xs named k 0 a b e))
+      ((alike_means w.readings (links_at w xs k) (marks_at w xs k) a b).1 (cell_alike w laws xs named k 0 a b e))
 
   fits : FitsAll w xs (filled w 0 xs)
-  fits = filled-fits w laws xs named (fillable_passes w laws xs named some) 0
+  fits = filled_fits w laws xs named (fillable_passes w laws xs named some) 0
 
   module _ (limit : alike_at w xs (a, b) Elsewhere ≡ true) where
     attains : CanDiffer w xs a b (length (unlike_columns w xs (a, b)))
@@ -175,7 +175,7 @@ module _ (w : Setting) (laws : Orderly w) (xs : List Statement) (named : Named w
         map (number_of S) (unlike_columns w xs (a, b)),
         record {
           distinct = (kept_apart S unlike (not_from_true (alike_at w xs (a, b) Elsewhere) limit) S.size).0;
-          differ = λ n m. let r = map-has (number_of S) (unlike_columns w xs (a, b)) n m in differs n r.0 r.1 r.2;
+          differ = λ n m. let r = map_has (number_of S) (unlike_columns w xs (a, b)) n m in differs n r.0 r.1 r.2;
         },
         length-map (unlike_columns w xs (a, b)) (number_of S),
       ),
@@ -195,7 +195,7 @@ module _ (w : Setting) (laws : Orderly w) (xs : List Statement) (named : Named w
                   let c = q.0 in
                   let same : column_numbered w n ≡ k =
                   ap (column_numbered w) (sym e ∙ ap (number_of w.slots) (sym q.3)) ∙ numbered_class w laws.slots c q.1 q.2 ∙ q.3 in
-                  filled-unlike n (subst (λ k. alike_at w xs (a, b) k ≡ false) (sym same) parts)
+                  filled_unlike n (subst (λ k. alike_at w xs (a, b) k ≡ false) (sym same) parts)
             ]
 
     -- of each slot number at which a filling differs the class is one at which the tables are not alike
@@ -218,7 +218,7 @@ module _ (w : Setting) (laws : Orderly w) (xs : List Statement) (named : Named w
             let r = some_column w laws.slots xs f fit n in
             let k = r.0 in
             let parts : alike_at w xs (a, b) k ≡ false = elim (cases_Bool (alike_at w xs (a, b) k)) [
-              | inl yes' ↦ absurd (ne (alike-holds w xs named f fit k n r.2 a b (alike_at_lem k yes')))
+              | inl yes' ↦ absurd (ne (alike_holds w xs named f fit k n r.2 a b (alike_at_lem k yes')))
               | inr parts ↦ parts
             ] in
             let m = kept_has unlike (columns w) k r.1 (not_from_false (alike_at w xs (a, b) k) parts) in
@@ -238,7 +238,7 @@ module _ (w : Setting) (laws : Orderly w) (xs : List Statement) (named : Named w
       range_with_len from n,
       record {
         distinct = counting_distinct from n;
-        differ = λ x m. filled-unlike x
+        differ = λ x m. filled_unlike x
             (subst (λ k. alike_at w xs (a, b) k ≡ false) (sym (numbered_beyond w laws.slots x (counting_above from n x m))) parts);
       },
       length-range_with_len from n,

@@ -12,8 +12,8 @@ use Rattle.meaning.specs.declared.column.Column.{Column}
 use Rattle.meaning.specs.declared.column.Column.TheVariants.{Elsewhere}
 use Rattle.meaning.specs.Columns.{AlikeAt, AlikeThroughout, ClashAt, SomeClash, at, columns, difference, differences, here, link_at, links_at, mark_at, marks_at}
 use Rattle.meaning.specs.Fillings.{Equal, Filling, Fits, FitsAll, Named, Setting, below, is_named, reading_of, slot_of}
-use Rattle.meaning.proofs.ColumnList.{column_cases, has_at, has-elsewhere}
-use Rattle.meaning.proofs.Lists.{none_some, present-has, some_inj}
+use Rattle.meaning.proofs.ColumnList.{column_cases, has_at, has_elsewhere}
+use Rattle.meaning.proofs.Lists.{none_some, present_has, some_inj}
 
 -- the names of a statement are below the counts
 below_name : (count : ℕ) (o : Option ℕ) (i : ℕ) → o ≡ Some i → below count o ≡ true → i < count
@@ -68,11 +68,11 @@ module _ (w : Setting) (f : Filling) (k : Column) (n : ℕ) (shows : Shows w f k
   mark_holds (E a b) nm fit p h = absurd (none_some h)
   mark_holds (D a b) nm fit p h = absurd (none_some h)
 
-difference-holds : (f : Filling) (x : Statement) → Fits f x → (p : ℕ × ℕ) → difference x ≡ Some p → ¬ Equal f p.0 p.1
-difference-holds f (W b a i v) fit p h = absurd (none_some h)
-difference-holds f (R a i v) fit p h = absurd (none_some h)
-difference-holds f (E a b) fit p h = absurd (none_some h)
-difference-holds f (D a b) fit p h = subst (λ (p : ℕ × ℕ). ¬ Equal f p.0 p.1) (some_inj h) fit
+difference_holds : (f : Filling) (x : Statement) → Fits f x → (p : ℕ × ℕ) → difference x ≡ Some p → ¬ Equal f p.0 p.1
+difference_holds f (W b a i v) fit p h = absurd (none_some h)
+difference_holds f (R a i v) fit p h = absurd (none_some h)
+difference_holds f (E a b) fit p h = absurd (none_some h)
+difference_holds f (D a b) fit p h = subst (λ (p : ℕ × ℕ). ¬ Equal f p.0 p.1) (some_inj h) fit
 
 -- a mark has the reading of its statement
 one_reading : (b : Bool) (a v : ℕ) (p : ℕ × ℕ) → cond b (Some (a, v)) None ≡ Some p → Some v ≡ Some p.1
@@ -89,38 +89,38 @@ module _ (w : Setting) (xs : List Statement) (named : Named w xs) where
   pub marks_named : (k : Column) (p : ℕ × ℕ) → Member p (marks_at w xs k) → p.1 < w.readings.size
   unfolding marks_at
   marks_named k p m =
-      let q = present-has (mark_at w k) xs p m in
+      let q = present_has (mark_at w k) xs p m in
       reading_named w q.0 (named q.0 q.1) p.1 (mark_reading w k q.0 p q.2)
 
   -- What a list says at a column.
   module _ (f : Filling) (fit : FitsAll w xs f) (k : Column) (n : ℕ) (shows : Shows w f k n) where
-    pub chain-holds : (a b : ℕ) → Joins (links_at w xs k) a b → f.holds a n ≡ f.holds b n
+    pub chain_holds : (a b : ℕ) → Joins (links_at w xs k) a b → f.holds a n ≡ f.holds b n
     unfolding links_at
-    chain-holds a b chain =
+    chain_holds a b chain =
         chain_keeps (λ t. f.holds t n) (links_at w xs k)
         (λ p m.
-        let q = present-has (link_at w k) xs p m in
+        let q = present_has (link_at w k) xs p m in
         link_holds w f k n shows q.0 (named q.0 q.1) (fit.fits q.0 q.1) p q.2)
         a b chain.0 chain.1
 
     pub marks_hold : (p : ℕ × ℕ) → Member p (marks_at w xs k) → f.holds p.0 n ≡ f.reading p.1
     unfolding marks_at
     marks_hold p m =
-        let q = present-has (mark_at w k) xs p m in
+        let q = present_has (mark_at w k) xs p m in
         mark_holds w f k n shows q.0 (named q.0 q.1) (fit.fits q.0 q.1) p q.2
 
-    pub alike-holds : (a b : ℕ) → AlikeAt w xs (a, b) k → f.holds a n ≡ f.holds b n
-    alike-holds a b (inl chain) = chain-holds a b chain
-    alike-holds a b (inr r) =
-        let e = (fit.readings r.p.1 r.q.1 (marks_named k r.p r.marked-p) (marks_named k r.q r.marked-q)).1 r.alike in
-        chain-holds a r.p.0 r.chain_a ∙ marks_hold r.p r.marked-p ∙ e
-        ∙ sym (marks_hold r.q r.marked-q) ∙ sym (chain-holds b r.q.0 r.chain_b)
+    pub alike_holds : (a b : ℕ) → AlikeAt w xs (a, b) k → f.holds a n ≡ f.holds b n
+    alike_holds a b (inl chain) = chain_holds a b chain
+    alike_holds a b (inr r) =
+        let e = (fit.readings r.p.1 r.q.1 (marks_named k r.p r.marked_p) (marks_named k r.q r.marked_q)).1 r.alike in
+        chain_holds a r.p.0 r.chain_a ∙ marks_hold r.p r.marked_p ∙ e
+        ∙ sym (marks_hold r.q r.marked_q) ∙ sym (chain_holds b r.q.0 r.chain_b)
 
-    clash-never : ClashAt w xs k → ⊥
-    clash-never r =
-        let e = sym (marks_hold r.p r.marked-p) ∙ chain-holds r.p.0 r.q.0 r.chain ∙ marks_hold r.q r.marked-q in
+    clash_never : ClashAt w xs k → ⊥
+    clash_never r =
+        let e = sym (marks_hold r.p r.marked_p) ∙ chain_holds r.p.0 r.q.0 r.chain ∙ marks_hold r.q r.marked_q in
         both_ways (same w.readings r.p.1 r.q.1) r.unlike
-        ((fit.readings r.p.1 r.q.1 (marks_named k r.p r.marked-p) (marks_named k r.q r.marked-q)).0 e)
+        ((fit.readings r.p.1 r.q.1 (marks_named k r.p r.marked_p) (marks_named k r.q r.marked_q)).0 e)
 
 -- a number that is above those of the first names
 abbrev beyond : (ℕ → ℕ) → ℕ → ℕ
@@ -174,7 +174,7 @@ module _ (w : Setting) (law : Lawful w.slots) (xs : List Statement) (f : Filling
             let l : c < S.size = omega (arith, lowest-le S law i, r.1) in
             let e = (fit.slots c i l r.1).1 (lowest_in S law i r.1) in
             (at c, has_at w c l (lowest_twice S law i r.1), shows_at c n l (e ∙ r.2))
-        | inr never ↦ (Elsewhere, has-elsewhere w, shows_elsewhere n never)
+        | inr never ↦ (Elsewhere, has_elsewhere w, shows_elsewhere n never)
       ]
 
   -- each column has a slot number: slot numbers run without end
@@ -189,13 +189,13 @@ module _ (w : Setting) (law : Lawful w.slots) (xs : List Statement) (f : Filling
 
   module _ (named : Named w xs) where
     pub no_clash : SomeClash w xs → ⊥
-    no_clash c = let r = some_number c.column c.among in clash-never w xs named f fit c.column r.0 r.1 c.clash
+    no_clash c = let r = some_number c.column c.among in clash_never w xs named f fit c.column r.0 r.1 c.clash
 
     pub not_throughout : AlikeThroughout w xs → ⊥
     unfolding differences
     not_throughout d =
-        let q = present-has difference xs d.tables d.differ in
-        difference-holds f q.0 (fit.fits q.0 q.1) d.tables q.2
+        let q = present_has difference xs d.tables d.differ in
+        difference_holds f q.0 (fit.fits q.0 q.1) d.tables q.2
         (λ n.
         let r = some_column n in
-        alike-holds w xs named f fit r.0 n r.2 d.tables.0 d.tables.1 (d.alike r.0 r.1))
+        alike_holds w xs named f fit r.0 n r.2 d.tables.0 d.tables.1 (d.alike r.0 r.1))

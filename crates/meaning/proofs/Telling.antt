@@ -7,7 +7,7 @@ use Rattle.links.proofs.Fewest.{fewest_some, nearest}
 use Rattle.links.proofs.Lists.{any_from}
 use Rattle.links.proofs.Reach.{joined_finds}
 use Rattle.arrangement.specs.Meaning.{lowest, same}
-use Rattle.arrangement.specs.Lowest.{lowest_back, lowest_in, lowest-le, lowest-same}
+use Rattle.arrangement.specs.Lowest.{lowest_back, lowest_in, lowest-le, lowest_same}
 use Rattle.statement.specs.declared.Reading.{Reading}
 use Rattle.statement.specs.declared.Statement.{Statement}
 use Rattle.meaning.specs.declared.column.Column.{Column}
@@ -16,11 +16,11 @@ use Rattle.meaning.specs.Columns.{links_at, marks_at}
 use Rattle.meaning.specs.Fillings.{Fillable, Named, Orderly, Setting}
 use Rattle.meaning.specs.Theorems.{Follows, Tells, ToldFollows}
 use Rattle.meaning.proofs.Cells.{Marked, Unmarked, cell_known, known_at}
-use Rattle.meaning.proofs.ClassNumbers.{numbered-slot}
-use Rattle.meaning.proofs.Complete.{filled-fits}
+use Rattle.meaning.proofs.ClassNumbers.{numbered_slot}
+use Rattle.meaning.proofs.Complete.{filled_fits}
 use Rattle.meaning.proofs.Deciding.{fillable_passes}
 use Rattle.meaning.proofs.Lists.{none_some, some_inj}
-use Rattle.meaning.proofs.Sound.{Shows, chain-holds, marks_hold, marks_named, shows_at}
+use Rattle.meaning.proofs.Sound.{Shows, chain_holds, marks_hold, marks_named, shows_at}
 
 module _ (w : Setting) (laws : Orderly w) (xs : List Statement) (named : Named w xs) (some : Fillable w xs)
     (a i : ℕ) (inside : i < w.slots.size) where
@@ -41,16 +41,16 @@ module _ (w : Setting) (laws : Orderly w) (xs : List Statement) (named : Named w
       let l : c < S.size = omega (arith, lowest-le S laws.slots i) in
       let e = (fit.slots c i l inside).1 (lowest_in S laws.slots i inside) in
       let shows : Shows w f (column_of w i) (f.slot i) = shows_at w laws.slots xs f fit c (f.slot i) l e in
-      chain-holds w xs named f fit (column_of w i) (f.slot i) shows a p.0 ((joined_finds L a p.0).0 j)
+      chain_holds w xs named f fit (column_of w i) (f.slot i) shows a p.0 ((joined_finds L a p.0).0 j)
       ∙ marks_hold w xs named f fit (column_of w i) (f.slot i) shows p m
 
   -- what follows is the reading of a mark that the table is joined to
   follows_marked : (v : ℕ) → v < w.readings.size → Follows w xs a i v → Marked w xs k a
   unfolding filled
   follows_marked v l h =
-      let e = h (filled w 0 xs) (filled-fits w laws xs named (fillable_passes w laws xs named some) 0) in
+      let e = h (filled w 0 xs) (filled_fits w laws xs named (fillable_passes w laws xs named some) 0) in
       cell_known w laws xs named k 0 a v l
-      (subst (λ k. cell w 0 xs k a ≡ lowest w.readings v) (numbered-slot w laws.slots i inside) e)
+      (subst (λ k. cell w 0 xs k a ≡ lowest w.readings v) (numbered_slot w laws.slots i inside) e)
 
   -- readings that follow are the same
   follow_same : (u v : ℕ) → u < w.readings.size → v < w.readings.size → Follows w xs a i u → Follows w xs a i v
@@ -70,9 +70,9 @@ module _ (w : Setting) (laws : Orderly w) (xs : List Statement) (named : Named w
       let q = fewest_some L (bears M) a r.mark.0 chain.0 chain.1 borne in
       (q.0, q.1)
 
-  distance-nearest : Nearest L (bears M) a (distance w xs k a)
+  distance_nearest : Nearest L (bears M) a (distance w xs k a)
   unfolding distance
-  distance-nearest = nearest L (bears M) a
+  distance_nearest = nearest L (bears M) a
 
   tells_none : (answer : Option (Reading × ℕ)) → answer ≡ None → Unmarked w xs k a → Tells w xs a i answer
   tells_none answer e r = record {
@@ -96,7 +96,7 @@ module _ (w : Setting) (laws : Orderly w) (xs : List Statement) (named : Named w
           (λ h.
               let one : lowest m u ≡ lowest m v = ap (λ (r : Reading × ℕ). r.0.0) (some_inj (sym e ∙ h.1)) in
               same_follows u v l n (lowest_back m laws.readings u v l n one) follows),
-          (λ h. (d, e ∙ ap (λ (x : ℕ). Some (record { 0 = x }, d)) (lowest-same m laws.readings u v (follow_same u v l n follows h)))),
+          (λ h. (d, e ∙ ap (λ (x : ℕ). Some (record { 0 = x }, d)) (lowest_same m laws.readings u v (follow_same u v l n follows h)))),
         );
         free = (
           (λ h. absurd (none_some (sym h ∙ e))),
@@ -104,7 +104,7 @@ module _ (w : Setting) (laws : Orderly w) (xs : List Statement) (named : Named w
         );
         nearest = λ v n h.
             let one : d ≡ n = ap (λ (r : Reading × ℕ). r.1) (some_inj (sym e ∙ h)) in
-            subst (λ (n : ℕ). Nearest L (bears M) a (Some n)) one (subst (Nearest L (bears M) a) far distance-nearest);
+            subst (λ (n : ℕ). Nearest L (bears M) a (Some n)) one (subst (Nearest L (bears M) a) far distance_nearest);
       }
 
   pub tells : Tells w xs a i (told w xs a i)

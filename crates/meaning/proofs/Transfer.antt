@@ -3,7 +3,7 @@
 use Rattle.std.proofs.Common.{◌≡◌, ℕ, suc, ◌+◌, ◌<◌, true, ◌⊎◌, ◌↔◌, List, [], ◌∷◌, map, Some, None, Option, sym, refl, ap, ◌∙◌, subst, subst₂, inl, inr, arith}
 use Rattle.links.specs.Lists.{Member, present}
 use Rattle.arrangement.specs.Meaning.{Alike, Lawful, Meaning, lowest, same}
-use Rattle.arrangement.specs.Lowest.{lowest_back, lowest-same}
+use Rattle.arrangement.specs.Lowest.{lowest_back, lowest_same}
 use Rattle.statement.specs.declared.Statement.{Statement}
 use Rattle.statement.specs.declared.Statement.TheVariants.{W, R, E, D}
 use Rattle.meaning.specs.Answers.{first_that}
@@ -68,7 +68,7 @@ module _ (old new : Meaning) (law : Lawful new) (g : ℕ → ℕ) (numbered : Nu
       p.is ∙ (at_hand p.name q.name p.among q.among).1 one ∙ sym q.is
   numbers_same i j h (inl p) (inr q) = absurd (q.never p.name p.among (law.through p.name i j p.one h))
   numbers_same i j h (inr p) (inl q) = absurd (p.never q.name q.among (law.through q.name j i q.one (law.back i j h)))
-  numbers_same i j h (inr p) (inr q) = p.is ∙ ap (λ n. above g ns + n) (lowest-same new law i j h) ∙ sym q.is
+  numbers_same i j h (inr p) (inr q) = p.is ∙ ap (λ n. above g ns + n) (lowest_same new law i j h) ∙ sym q.is
 
   numbers_back : (i j : ℕ) → i < new.size → j < new.size → renumber new g ns i ≡ renumber new g ns j
       → Kept i ⊎ Fresh i → Kept j ⊎ Fresh j → same new i j ≡ true
@@ -104,22 +104,22 @@ alike_back m m' ns a = record { low = λ i k. ((a.low i k).1, (a.low i k).0); ag
 
 -- a filling under arrangements that relate the names alike gives one under the first
 pub carried : (w w' : Setting) (xs : List Statement) → Lawful w.slots → Lawful w.readings → Likewise w w' xs → Fillable w' xs → Fillable w xs
-carried w w' xs lawS lawR alike fillable =
+carried w w' xs law_slots law_readings alike fillable =
     let f = fillable.0 in
     let fit = fillable.1 in
     let is = present (map slot_of xs) in
     let vs = present (map reading_of xs) in
-    let onS = alike_back w.slots w'.slots is alike.slots in
-    let onR = alike_back w.readings w'.readings vs alike.readings in
+    let on_slots = alike_back w.slots w'.slots is alike.slots in
+    let on_readings = alike_back w.readings w'.readings vs alike.readings in
     let s = renumber w.slots f.slot is in
     let r = renumber w.readings f.reading vs in (
       moved f s r,
       record {
-        slots = renumber_numbered w'.slots w.slots lawS f.slot fit.slots is onS;
-        readings = renumber_numbered w'.readings w.readings lawR f.reading fit.readings vs onR;
+        slots = renumber_numbered w'.slots w.slots law_slots f.slot fit.slots is on_slots;
+        readings = renumber_numbered w'.readings w.readings law_readings f.reading fit.readings vs on_readings;
         fits = λ x m. moved_fits f s r x
-            (λ i k. renumber_kept w'.slots w.slots lawS f.slot fit.slots is onS i (present_from slot_of xs x i m k))
-            (λ v k. renumber_kept w'.readings w.readings lawR f.reading fit.readings vs onR v (present_from reading_of xs x v m k))
+            (λ i k. renumber_kept w'.slots w.slots law_slots f.slot fit.slots is on_slots i (present_from slot_of xs x i m k))
+            (λ v k. renumber_kept w'.readings w.readings law_readings f.reading fit.readings vs on_readings v (present_from reading_of xs x v m k))
             (fit.fits x m);
       },
     )

@@ -8,8 +8,8 @@ use Rattle.meaning.specs.declared.column.Column.TheVariants.{Elsewhere}
 use Rattle.meaning.specs.Answers.{cell, column_at, column_of, filled, filling}
 use Rattle.meaning.specs.Fillings.{Orderly, Setting}
 use Rattle.meaning.specs.Theorems.{FillingFits, Written}
-use Rattle.meaning.proofs.ClassNumbers.{numbered_none, numbered-slot}
-use Rattle.meaning.proofs.Complete.{filled-fits}
+use Rattle.meaning.proofs.ClassNumbers.{numbered_none, numbered_slot}
+use Rattle.meaning.proofs.Complete.{filled_fits}
 use Rattle.meaning.proofs.Deciding.{fillable_passes}
 
 module _ (w : Setting) (laws : Orderly w) (tables : ℕ) (xs : List Statement) where
@@ -39,7 +39,7 @@ module _ (w : Setting) (laws : Orderly w) (tables : ℕ) (xs : List Statement) w
     named = λ t i l n.
         at_place t i l (omega arith)
         ∙ ap (λ k. cell w tables xs k t)
-        (cond-true (ltb i w.slots.size) (column_of w i) Elsewhere (lt-ltb i w.slots.size n) ∙ sym (numbered-slot w laws.slots i n));
+        (cond-true (ltb i w.slots.size) (column_of w i) Elsewhere (lt-ltb i w.slots.size n) ∙ sym (numbered_slot w laws.slots i n));
     elsewhere = λ t n l never.
         at_place t w.slots.size l (omega arith)
         ∙ ap (λ k. cell w tables xs k t)
@@ -47,6 +47,6 @@ module _ (w : Setting) (laws : Orderly w) (tables : ℕ) (xs : List Statement) w
         ∙ sym (numbered_none w laws.slots n never));
   }
 
-pub filling-fits : FillingFits
-filling-fits w laws xs named some tables =
-    (filled-fits w laws xs named (fillable_passes w laws xs named some) tables, written w laws tables xs)
+pub filling_fits : FillingFits
+filling_fits w laws xs named some tables =
+    (filled_fits w laws xs named (fillable_passes w laws xs named some) tables, written w laws tables xs)

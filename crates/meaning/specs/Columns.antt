@@ -52,8 +52,8 @@ differences xs = present (map difference xs)
 pub record Clash (m : Meaning) (links marks : List (ℕ × ℕ)) : Type 0 where
   pub p : ℕ × ℕ
   pub q : ℕ × ℕ
-  pub marked-p : Member p marks
-  pub marked-q : Member q marks
+  pub marked_p : Member p marks
+  pub marked_q : Member q marks
   pub chain : Joins links p.0 q.0
   pub unlike : same m p.1 q.1 ≡ false
 
@@ -61,8 +61,8 @@ pub record Clash (m : Meaning) (links marks : List (ℕ × ℕ)) : Type 0 where
 pub record MarkedAlike (m : Meaning) (links marks : List (ℕ × ℕ)) (a b : ℕ) : Type 0 where
   pub p : ℕ × ℕ
   pub q : ℕ × ℕ
-  pub marked-p : Member p marks
-  pub marked-q : Member q marks
+  pub marked_p : Member p marks
+  pub marked_q : Member q marks
   pub chain_a : Joins links a p.0
   pub chain_b : Joins links b q.0
   pub alike : same m p.1 q.1 ≡ true

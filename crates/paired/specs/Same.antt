@@ -6,7 +6,7 @@ use Rattle.std.proofs.lemmas.Bool.{and_from, and_parts, eq-eqb, eqb-true, lt-ltb
 use Rattle.links.specs.Chains.{Joins, joined, lowest_joined}
 use Rattle.links.specs.Groups.{root_of}
 use Rattle.links.proofs.Reach.{joined_finds, joined_self, joined_through, joined_turn}
-use Rattle.links.proofs.Roots.{lowest_back, lowest-same, root_is}
+use Rattle.links.proofs.Roots.{lowest_back, lowest_same, root_is}
 use Rattle.arrangement.specs.Meaning.{same}
 use Rattle.arrangement.specs.Laws.{same_answer}
 use Rattle.paired.specs.Calls.{Call, run}
@@ -40,23 +40,23 @@ module _ (p : Pairings) where
       same_from i k s.0.0 t.0.1 (joined_through p.links i j k s.1 t.1)
 
   -- in the words of chains
-  pub same-chain : (i j : ℕ) → (same (meaning_of p) i j ≡ true) ↔ ((i < p.count) × (j < p.count) × Joins p.links i j)
-  same-chain i j = (
+  pub same_chain : (i j : ℕ) → (same (meaning_of p) i j ≡ true) ↔ ((i < p.count) × (j < p.count) × Joins p.links i j)
+  same_chain i j = (
     λ h. let s = same_parts i j h in (s.0.0, s.0.1, (joined_finds p.links i j).0 s.1),
     λ r. same_from i j r.0 r.1 ((joined_finds p.links i j).1 r.2),
   )
 
 -- equal roots are joined names
-pub roots-joined : (links : List (ℕ × ℕ)) (root : List ℕ) → length root ≡ 128 → ((t : ℕ) → t < 128 → slice_index root t ≡ lowest_joined links t) → (i j : ℕ) → i < 128 → j < 128 → (root_of root i == root_of root j) ≡ joined links i j
-roots-joined links root long grouped i j a b =
+pub roots_joined : (links : List (ℕ × ℕ)) (root : List ℕ) → length root ≡ 128 → ((t : ℕ) → t < 128 → slice_index root t ≡ lowest_joined links t) → (i j : ℕ) → i < 128 → j < 128 → (root_of root i == root_of root j) ≡ joined links i j
+roots_joined links root long grouped i j a b =
     let p = root_is root long i a ∙ grouped i a in
     let q = root_is root long j b ∙ grouped j b in
     same_answer (root_of root i == root_of root j) (joined links i j)
     (λ h. lowest_back links i j (sym p ∙ eqb-true (root_of root i) (root_of root j) h ∙ q))
-    (λ h. eq-eqb (root_of root i) (root_of root j) (p ∙ lowest-same links i j h ∙ sym q))
+    (λ h. eq-eqb (root_of root i) (root_of root j) (p ∙ lowest_same links i j h ∙ sym q))
 
 -- an answer that is `same` says, after any calls, whether a chain of the pairings since the count was set joins the names
 pub same_after : (p : Pairings) (i j : ℕ) (r : Bool) → r ≡ same (meaning_of p) i j → (calls : List Call) → p ≡ run none calls → (r ≡ true) ↔ ((i < (run none calls).count) × (j < (run none calls).count) × Joins (run none calls).links i j)
 same_after p i j r is calls e =
     subst (λ (q : Pairings). (r ≡ true) ↔ ((i < q.count) × (j < q.count) × Joins q.links i j)) e
-    (λ h. (same-chain p i j).0 (sym is ∙ h), λ h. is ∙ (same-chain p i j).1 h)
+    (λ h. (same_chain p i j).0 (sym is ∙ h), λ h. is ∙ (same_chain p i j).1 h)

@@ -7,7 +7,6 @@ ghost use Rattle.paired.specs.Calls.{Call, run};
 ghost use Rattle.paired.specs.Held.{pairings_of};
 ghost use Rattle.paired.specs.Pairings.{answer, are_names, count_questions, meaning_of, none, pair_questions, with_count, with_pair};
 ghost use Rattle.paired.specs.Same;
-ghost use Rattle.std.proofs.Common.{rules, arith};
 
 use crate::store::Paired;
 use arrangement::{Arrangement, Refusal};
@@ -94,7 +93,7 @@ impl Paired {
 impl Arrangement for Paired {
     ghost meaning = { λ x. meaning_of (pairings_of x) };
 
-    ghost bounded = { first_of (Prim.search rules, Prim.grind (arith, Self.row.coded.inj)) };
+    ghost bounded = { λ x. x.few };
 
     ghost reflexive = { λ x. Same.reflexive (pairings_of x) };
 

@@ -6,7 +6,7 @@ ghost use Rattle.search.specs.Entries.{searched};
 ghost use Rattle.paired.specs.Held.{entries_of, pairings_of};
 ghost use Rattle.paired.specs.Pairings.{answer, name_questions, why_of};
 ghost use Rattle.paired.specs.Entries.{entries_inside};
-ghost use Rattle.std.proofs.Common.{rules, arith};
+ghost use Rattle.std.proofs.Common.{arith};
 
 use crate::store::Paired;
 use arrangement::Refusal;
@@ -32,7 +32,7 @@ impl Links for Paired {
 
     ghost count = { λ x. x.names };
 
-    ghost few = { first_of (Prim.search rules, Prim.grind (arith, Self.row.coded.inj)) };
+    ghost few = { λ x. Prim.omega (arith, x.few) };
 
     ghost inside = { λ x. entries_inside x };
 

@@ -17,12 +17,12 @@ module _ (s : Standing) (a b : ℕ) where
       let unlike = unlike_columns (setting_in s) (list_in s) (a, b) in
       Limit (bits_of unlike) (length unlike)
 
-  abbrev alike-elsewhere : Bool
-  alike-elsewhere = alike_at (setting_in s) (list_in s) (a, b) Elsewhere
+  abbrev alike_elsewhere : Bool
+  alike_elsewhere = alike_at (setting_in s) (list_in s) (a, b) Elsewhere
 
   pub no_limit_is : unlike_at s a b Elsewhere ≡ true → NoLimit ≡ apart (setting_in s) (list_in s) a b
   unfolding apart
-  no_limit_is h = sym (cond-false alike-elsewhere limit NoLimit (not-true alike-elsewhere h))
+  no_limit_is h = sym (cond-false alike_elsewhere limit NoLimit (not-true alike_elsewhere h))
 
   pub limit_is : unlike_at s a b Elsewhere ≡ false → (set : ℕ) → set ≡ bits_of (unlike_columns (setting_in s) (list_in s) (a, b))
       → Limit set (ones set) ≡ apart (setting_in s) (list_in s) a b
@@ -31,4 +31,4 @@ module _ (s : Standing) (a b : ℕ) where
       let m = (setting_in s).slots in
       ap (λ (n : ℕ). Limit n (ones n)) e
       ∙ ap (λ (n : ℕ). Limit (bits_of (unlike_columns (setting_in s) (list_in s) (a, b))) n) (counted m (unlike_at s a b) h m.size).many
-      ∙ sym (cond-true alike-elsewhere limit NoLimit (not-false alike-elsewhere h))
+      ∙ sym (cond-true alike_elsewhere limit NoLimit (not-false alike_elsewhere h))

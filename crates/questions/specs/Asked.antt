@@ -1,5 +1,5 @@
 -- What is asked of the standing statements, and what is answered.
-use Rattle.std.specs.Prelude.{ℕ, Bool, cond, not, ◌&&◌, List, map, Some, None, vec_items, Option, ◌==◌, nat_lt}
+use Rattle.std.specs.Prelude.{ℕ, Bool, cond, not, ◌&&◌, List, map, Some, None, Option, ◌==◌, nat_lt}
 use Rattle.arrangement.specs.Meaning.{lowest}
 use Rattle.column.specs.Naming.{setting_of}
 use Rattle.meaning.specs.declared.apart.Apart.{Apart}
@@ -17,7 +17,7 @@ setting_in s = setting_of s.naming
 
 -- the statements, in order
 abbrev pub list_in : Standing → List Statement
-list_in s = vec_items s.list
+list_in s = s.list.items
 
 -- for each statement, in order, what it links at the column
 abbrev pub links_in : Standing → Column → List (Option (ℕ × ℕ))

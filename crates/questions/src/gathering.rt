@@ -3,7 +3,6 @@
 ghost use Rattle.std.specs.Prelude.{◌≡◌, take};
 ghost use Rattle.questions.specs.Asked.{links_in};
 ghost use Rattle.questions.specs.Linking.{all_inside};
-ghost use Rattle.std.proofs.Common.{rules, arith};
 
 use crate::gathered::Gathered;
 use column::link_at;
@@ -34,7 +33,7 @@ impl Links for Gathered {
 
     ghost count = { λ x. x.tables };
 
-    ghost few = { first_of (Prim.search rules, Prim.grind (arith, Self.row.coded.inj)) };
+    ghost few = { λ x. x.few };
 
     ghost inside = { λ x. all_inside x.tables (take x.len x.links) x.inside };
 

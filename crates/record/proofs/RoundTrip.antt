@@ -41,14 +41,14 @@ at_row x y z u k within =
     let d : Facts = asked x y z u opening in
     sym (get_or-map (asked x y z u) kinds k opening d within) ∙ ap (λ facts. get_or facts k d) (rule x y z u) ∙ get_or-map (wanted x y z u) kinds k opening d within
 
-place-within : (kind : Kind) → place kind < length kinds
-place-within Opening = lit< tt
-place-within SlotPairing = lit< tt
-place-within ReadingPairing = lit< tt
-place-within Writes = lit< tt
-place-within Reads = lit< tt
-place-within Equals = lit< tt
-place-within Differs = lit< tt
+place_within : (kind : Kind) → place kind < length kinds
+place_within Opening = lit< tt
+place_within SlotPairing = lit< tt
+place_within ReadingPairing = lit< tt
+place_within Writes = lit< tt
+place_within Reads = lit< tt
+place_within Equals = lit< tt
+place_within Differs = lit< tt
 
 -- where a row that was found stands
 row_place : (rows : List Row) (byte : ℕ) (row : Row) → row_in rows byte ≡ Some row → (k : ℕ) × (k < length rows) × (get_or rows k opening ≡ row) × (row.byte ≡ byte)
@@ -83,10 +83,10 @@ masked_clear [] fields = refl
 masked_clear (s ∷ sorts) [] = refl
 masked_clear (s ∷ sorts) (x ∷ fields) = and_from _ _ (field_clear (counts s) x) (masked_clear sorts fields)
 
-masked-length : (sorts : List Sort) (fields : List ℕ) → length fields ≡ length sorts → length (masked sorts fields) ≡ length sorts
-masked-length [] fields e = refl
-masked-length (s ∷ sorts) [] e = absurd (omega arith)
-masked-length (s ∷ sorts) (x ∷ fields) e = ap suc (masked-length sorts fields (omega arith))
+masked_length : (sorts : List Sort) (fields : List ℕ) → length fields ≡ length sorts → length (masked sorts fields) ≡ length sorts
+masked_length [] fields e = refl
+masked_length (s ∷ sorts) [] e = absurd (omega arith)
+masked_length (s ∷ sorts) (x ∷ fields) e = ap suc (masked_length sorts fields (omega arith))
 
 -- the first seven bytes, one by one
 seven : (bytes : List ℕ) → 7 ≤ length bytes → take 7 bytes ≡ get_or bytes 0 0 ∷ get_or bytes 1 0 ∷ get_or bytes 2 0 ∷ get_or bytes 3 0 ∷ get_or bytes 4 0 ∷ get_or bytes 5 0 ∷ get_or bytes 6 0 ∷ []
@@ -170,8 +170,8 @@ reads_fields byte (x ∷ y ∷ z ∷ u ∷ w ∷ more) rest e = absurd (omega ar
 -- a record has seven bytes
 four_fields : (x : Record) → length (masked (row_of (kind_of x)).sorts (fields_of x)) ≡ 4
 four_fields x =
-    let four : length (row_of (kind_of x)).sorts ≡ 4 = ap (λ (f : Facts). f.2) (at_row 0 0 0 0 (place (kind_of x)) (place-within (kind_of x))) in
-    masked-length (row_of (kind_of x)).sorts (fields_of x) ((said x).0 ∙ sym four) ∙ four
+    let four : length (row_of (kind_of x)).sorts ≡ 4 = ap (λ (f : Facts). f.2) (at_row 0 0 0 0 (place (kind_of x)) (place_within (kind_of x))) in
+    masked_length (row_of (kind_of x)).sorts (fields_of x) ((said x).0 ∙ sym four) ∙ four
 
 pub seven_bytes : (x : Record) → length (bytes_of x) ≡ 7
 seven_bytes x = omega (arith, four_fields x)
@@ -180,7 +180,7 @@ seven_bytes x = omega (arith, four_fields x)
 pub back : (x : Record) (rest : List ℕ) → read_one (bytes_of x ++ rest) ≡ Ok (Some x)
 back x rest =
     let row : Row = row_of (kind_of x) in
-    let found : row_in kinds row.byte ≡ Some row = ap (λ (f : Facts). f.0) (at_row 0 0 0 0 (place (kind_of x)) (place-within (kind_of x))) in
+    let found : row_in kinds row.byte ≡ Some row = ap (λ (f : Facts). f.0) (at_row 0 0 0 0 (place (kind_of x)) (place_within (kind_of x))) in
     let fields : List ℕ = masked row.sorts (fields_of x) in
     reads_fields row.byte fields rest (four_fields x)
     ∙ ap (λ o. read_fields o fields) found

@@ -53,12 +53,12 @@ unknown_same : (d : ℕ) (D : List ℕ) → eqb d 255 ≡ false → unknowns (d 
 unknown_same d D f = cond-false (eqb d 255) (suc (unknowns D)) (unknowns D) f
 
 -- one name reached is one less that is not
-pub unknowns-set : (D : List ℕ) (y v : ℕ) → y < length D → at D y ≡ 255 → v < 255 → unknowns (set D y v) + 1 ≡ unknowns D
-unknowns-set [] y v lt e l = absurd (omega arith)
-unknowns-set (d ∷ D) zero v lt e l =
+pub unknowns_set : (D : List ℕ) (y v : ℕ) → y < length D → at D y ≡ 255 → v < 255 → unknowns (set D y v) + 1 ≡ unknowns D
+unknowns_set [] y v lt e l = absurd (omega arith)
+unknowns_set (d ∷ D) zero v lt e l =
     omega (arith, unknown_same v D (ne_eqb v 255 (λ q. omega arith)), unknown_more d D (eq-eqb d 255 e))
-unknowns-set (d ∷ D) (suc y) v lt e l =
-    let less = unknowns-set D y v (omega arith) e l in
+unknowns_set (d ∷ D) (suc y) v lt e l =
+    let less = unknowns_set D y v (omega arith) e l in
     elim (cases_Bool (eqb d 255)) [
       | inl t ↦ omega (arith, unknown_more d (set D y v) t, unknown_more d D t)
       | inr f ↦ omega (arith, unknown_same d (set D y v) f, unknown_same d D f)

@@ -10,7 +10,7 @@ use Rattle.search.specs.Entries.{Inside, present, searched}
 use Rattle.search.specs.Tables.{at, unknowns}
 use Rattle.search.specs.Walks.{Walk, visited, walk}
 use Rattle.search.proofs.Rising.{Rising, rising_member, rising_wider}
-use Rattle.search.proofs.Tables.{set_other, unknowns-set}
+use Rattle.search.proofs.Tables.{set_other, unknowns_set}
 use Rattle.search.proofs.Visits.{Done, Honest, Mid, Table, all_near, opens, under_visited}
 
 -- what waits has distances that rise by at most one from the first, and nothing is reached farther
@@ -101,9 +101,9 @@ module _ (links : List (ℕ × ℕ)) (goal : ℕ → Bool) (from : ℕ) where
     goal_none c k ch = (done c (known_all c k ch)).0
 
 -- from a name, what is nearest is what the search answers
-pub nearest-searched : (count : ℕ) (links : List (ℕ × ℕ)) (goal : ℕ → Bool) (from : ℕ) (r : Option ℕ)
+pub nearest_searched : (count : ℕ) (links : List (ℕ × ℕ)) (goal : ℕ → Bool) (from : ℕ) (r : Option ℕ)
     → from < count → Nearest links goal from r → r ≡ searched count links goal from
-nearest-searched count links goal from r below near =
+nearest_searched count links goal from r below near =
     fewest_is links goal from r near ∙ sym (cond-true (ltb from count) (fewest links goal from) None (lt-ltb from count below))
 
 -- the table in which nothing is reached
@@ -150,7 +150,7 @@ module _ (links : List (ℕ × ℕ)) (goal : ℕ → Bool) (from : ℕ) (below :
   }
 
   pub unknowns_start : unknowns (started from) + 1 ≡ 128
-  unknowns_start = unknowns-set blank from 0 below (at_blank from) (omega arith)
+  unknowns_start = unknowns_set blank from 0 below (at_blank from) (omega arith)
 
 -- the first entry waits alone
 module _ {E : Type 0} (name_of : E → ℕ) (distance_of : E → ℕ → ℕ) (links : List (ℕ × ℕ)) (goal : ℕ → Bool) (from : ℕ) (below : from < 128)

@@ -206,9 +206,9 @@ opens (Some p ∷ es) x (i, a) = (
       es (opens es x a),
 )
 
-pub across-below : (e : Option (ℕ × ℕ)) (x y m : ℕ) → Inside m e → Some y ≡ across e x → y < m
-across-below None x y m i q = let z : ◌≡◌ {A = ℕ} 0 1 = cc in absurd (omega arith)
-across-below (Some p) x y m i q =
+pub across_below : (e : Option (ℕ × ℕ)) (x y m : ℕ) → Inside m e → Some y ≡ across e x → y < m
+across_below None x y m i q = let z : ◌≡◌ {A = ℕ} 0 1 = cc in absurd (omega arith)
+across_below (Some p) x y m i q =
     subst (λ o. IfSome o (λ v. v < m)) (sym q)
     (cases_weaker (across (Some p) x) (λ v. Linked (p ∷ []) x v × (v < m)) (λ v. v < m) (λ v j. j.1) (across_linked p [] x m i))
 

@@ -11,7 +11,7 @@ use Rattle.meaning.specs.Fillings.{Named, Orderly, Setting, is_named, is_within,
 use Rattle.meaning.specs.Theorems.{Within, omit}
 use Rattle.meaning.proofs.Blame.{parts_fit}
 use Rattle.meaning.proofs.Deciding.{fillable_passes, passes_fillable}
-use Rattle.meaning.proofs.Lists.{omit-within}
+use Rattle.meaning.proofs.Lists.{omit_within}
 use Rattle.column.specs.declared.naming.Naming.{Naming}
 use Rattle.column.specs.Naming.{setting_of}
 use Rattle.column.specs.Sights.{Readable}
@@ -34,9 +34,9 @@ within_named t w xs h x m =
 
 -- Nothing, and parts.
 
-nothing-fits : (w : Setting) → test w [] ≡ true
+nothing_fits : (w : Setting) → test w [] ≡ true
 unfolding test clash_at clash links_at marks_at differences
-nothing-fits w =
+nothing_fits w =
     and_from (all_of (λ k. not (clash_at w [] k)) (columns w)) (all_of (parted w []) (differences []))
     (all_from (λ k. not (clash_at w [] k)) (columns w) (λ k m. refl)) refl
 
@@ -71,7 +71,7 @@ module _ (t : ℕ) (naming : Naming) where
   within xs = all_of (is_within t w) xs
 
   pub nothing_stands : is_standing t naming [] ≡ true
-  nothing_stands = nothing-fits w
+  nothing_stands = nothing_fits w
 
   pub more_stands : (n : ℕ) → t ≤ n → (xs : List Statement) → is_standing t naming xs ≡ true → is_standing n naming xs ≡ true
   more_stands n l xs h =
@@ -88,7 +88,7 @@ module _ (t : ℕ) (naming : Naming) where
       (parts_fit.part w xs ys part (passes_fillable w (orderly naming) ys (within_named t w ys p.0) p.1)))
 
   pub omitted_stands : (k : ℕ) (xs : List Statement) → is_standing t naming xs ≡ true → is_standing t naming (omit k xs) ≡ true
-  omitted_stands k xs h = part_stands (omit k xs) xs (omit-within k xs) h
+  omitted_stands k xs h = part_stands (omit k xs) xs (omit_within k xs) h
 
   -- one that is offered, before those that stand; what is known of it is as a call answered
   module _ (x : Statement) (xs : List Statement) (h : is_standing t naming xs ≡ true) where

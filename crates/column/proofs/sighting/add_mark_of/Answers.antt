@@ -5,7 +5,7 @@ use Rattle.arrangement.specs.Meaning.{lowest}
 use Rattle.arrangement.specs.Kept.{lawful}
 use Rattle.column.specs.Naming.{setting_of}
 use Rattle.column.specs.Sights.{Seen}
-use Rattle.column.proofs.Seeing.{mark_below, seen-marked}
+use Rattle.column.proofs.Seeing.{mark_below, seen_marked}
 use Rattle.links.specs.Lists.{present}
 use Rattle.meaning.proofs.Lists.{none_some, some_inj}
 use Rattle.column.proofs.sighting.add_mark_of.Goals as goal
@@ -19,7 +19,7 @@ returns-in-Some-lowest c links marks within seen =
     let low : c.in-Some-lowest.reading ≡ lowest w.readings v =
     some_inj (c.in-Some-lowest.ensures ∙ cond-true _ _ _ (lt-ltb v w.readings.size below.1)) in
     subst (λ o. Seen w.readings links (marks ++ present (o ∷ [])) c.add_mark.new.self) c.in-Some.ensures
-    (seen-marked w.readings (lawful c.args.naming.now.readings) links marks c.args.sight.now c.add_mark.new.self seen
+    (seen_marked w.readings (lawful c.args.naming.now.readings) links marks c.args.sight.now c.add_mark.new.self seen
     t v c.in-Some-lowest.reading below.0 below.1 low
     c.add_mark.ensures.groups c.add_mark.ensures.marks c.add_mark.ensures.clash)
 

@@ -2,7 +2,7 @@ use Rattle.std.proofs.Common.{sym, refl, ◌∙◌, arith, length-set}
 use Rattle.arrangement.specs.Kept.{lawful}
 use Rattle.column.specs.Naming.{setting_of}
 use Rattle.column.specs.Sights.{given}
-use Rattle.decision.proofs.Looked.{loud_at, loud_elsewhere, readable_named, seen_all, seen-set, seen_skip, seen_start}
+use Rattle.decision.proofs.Looked.{loud_at, loud_elsewhere, readable_named, seen_all, seen_set, seen_skip, seen_start}
 use Rattle.decision.proofs.looking.look.Goals as goal
 
 pub returns-then-clashes : goal.returns-then-clashes
@@ -47,7 +47,7 @@ loop-c-preserved c = (
   λ readable.
       let n = c.args.naming.now in
       let xs = given c.args.offered c.args.kept.now c.args.rest.now in
-      seen-set (setting_of n) (lawful n.slots) xs (readable_named (setting_of n) xs readable)
+      seen_set (setting_of n) (lawful n.slots) xs (readable_named (setting_of n) xs readable)
       c.sight_at-elsewhere.result (c.sight_at-elsewhere.ensures readable) (sym c.if-clashes.ensures)
       c.loop-c.c c.loop-c.each (c.loop-c.invariant.1 readable) c.loop-c-test.true c.loop-c.invariant.0
       c.sight_at-sight.result (c.sight_at-sight.ensures readable) (sym c.if-clashes-2.ensures)

@@ -1,5 +1,5 @@
-use Rattle.meaning.proofs.Writing.{filling-fits}
+use Rattle.meaning.proofs.Writing.{filling_fits}
 use Rattle.meaning.proofs.theorems.filling_fits_holds.Goals as goal
 
 pub returns : goal.returns
-returns c = filling-fits
+returns c = filling_fits

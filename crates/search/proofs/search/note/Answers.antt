@@ -3,7 +3,7 @@ use Rattle.std.proofs.lemmas.List.{get_or_default, length_push}
 use Rattle.search.specs.Queues.{room, waiting}
 use Rattle.search.specs.Tables.{at}
 use Rattle.search.proofs.Queues.{pushed_room}
-use Rattle.search.proofs.Tables.{unknowns-set}
+use Rattle.search.proofs.Tables.{unknowns_set}
 use Rattle.search.proofs.Visits.{noted_new, noted_old}
 use Rattle.search.proofs.search.note.Goals as goal
 
@@ -15,7 +15,7 @@ returns-then-known-name g c =
     let e = c.of.result in
     let below : y < length D = search rules in
     let new : at D y ≡ 255 = get_or_default D y 255 0 below ∙ c.if-known-name.true in
-    let less = unknowns-set D y c.args.distance below new (search rules) in
+    let less = unknowns_set D y c.args.distance below new (search rules) in
     let held : waiting c.push.new.self ≡ waiting q ++ (e ∷ []) = c.push.ensures.added ∙ pushed_room (room q) (waiting q) e (omega arith) in
     record {
       does = noted_new g.E.Entry.made D (waiting q) y c.args.distance _ new (held ∙ ap (λ e. waiting q ++ (e ∷ [])) c.of.ensures);

@@ -2,7 +2,7 @@ use Rattle.std.proofs.Common.{◌≡◌, ◌+◌, ◌<◌, [], ◌∷◌, ◌++�
 use Rattle.search.specs.Entries.{present}
 use Rattle.search.specs.Queues.{room, waiting}
 use Rattle.search.proofs.Queues.{popped_none, popped_some, pushed_room}
-use Rattle.search.proofs.Turns.{Top, goal_none, nearest-searched, starts, turn_found, turn_next, unknowns_start}
+use Rattle.search.proofs.Turns.{Top, goal_none, nearest_searched, starts, turn_found, turn_next, unknowns_start}
 use Rattle.search.proofs.Visits.{inside_wider}
 use Rattle.search.proofs.search.search.Goals as goal
 
@@ -38,7 +38,7 @@ returns-then-met g c =
     let near = turn_found entry.made entry.name_of entry.distance_of met.named met.measured es taken c.loop-entry.invariant.0 c.loop-entry.invariant.1
     c.name-name.result c.distance-distance.result c.name-name.ensures c.distance-distance.ensures (sym c.met.ensures ∙ c.if-met.true) in
     record {
-      is = nearest-searched (g.L.Links.count links) (present es) goal c.args.from _ (omega arith) near;
+      is = nearest_searched (g.L.Links.count links) (present es) goal c.args.from _ (omega arith) near;
       nearest = λ _. near;
     }
 
@@ -71,6 +71,6 @@ returns g c =
     let near = goal_none (present es) goal from left c.loop-entry.known
     (subst (λ W. Top (present es) goal from left c.loop-entry.known (map g.E.Entry.name_of W)) empty c.loop-entry.invariant.0) in
     record {
-      is = nearest-searched (g.L.Links.count links) (present es) goal from None (omega arith) near;
+      is = nearest_searched (g.L.Links.count links) (present es) goal from None (omega arith) near;
       nearest = λ _. near;
     }

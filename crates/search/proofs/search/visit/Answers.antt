@@ -6,7 +6,7 @@ use Rattle.search.specs.Entries.{Inside, across}
 use Rattle.search.specs.Queues.{room, waiting}
 use Rattle.search.specs.Tables.{unknowns}
 use Rattle.search.specs.Walks.{Walk, noted_if, visited, walk}
-use Rattle.search.proofs.Visits.{across-below, visited_more}
+use Rattle.search.proofs.Visits.{across_below, visited_more}
 use Rattle.search.proofs.search.visit.Goals as goal
 use Rattle.search.proofs.search.visit.Goals.{in-Some, in-None}
 
@@ -22,7 +22,7 @@ note-requires g c =
     let inside = All-get_or (Inside m) es k None lt (g.met.L.Links.inside links) in
     let e : Some y ≡ across (get_or es k None) x = sym c.in-Some.is ∙ c.other_end.ensures ∙ ap (λ o. across o x) c.link.ensures in
     record {
-      below = omega (arith, across-below (get_or es k None) x y m inside e, g.met.L.Links.few links);
+      below = omega (arith, across_below (get_or es k None) x y m inside e, g.met.L.Links.few links);
       short = c.requires.short;
       fits = c.loop-k.invariant.1;
     }

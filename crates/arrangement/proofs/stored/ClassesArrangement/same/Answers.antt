@@ -1,7 +1,7 @@
 -- Names are the same where their lowest names are one.
 use Rattle.std.proofs.Common.{arith}
 use Rattle.arrangement.specs.Stored.{classes_meaning}
-use Rattle.arrangement.specs.Laws.{left_beyond, right_beyond, same-within}
+use Rattle.arrangement.specs.Laws.{left_beyond, right_beyond, same_within}
 use Rattle.arrangement.proofs.stored.ClassesArrangement.same.Goals as goal
 
 pub returns-then-i-self : goal.returns-then-i-self
@@ -11,4 +11,4 @@ pub returns-then-j-self : goal.returns-then-j-self
 returns-then-j-self c = right_beyond (classes_meaning c.args.self.now) c.args.i c.args.j (omega arith)
 
 pub returns : goal.returns
-returns c = same-within (classes_meaning c.args.self.now) c.args.i c.args.j (omega arith) (omega arith)
+returns c = same_within (classes_meaning c.args.self.now) c.args.i c.args.j (omega arith) (omega arith)

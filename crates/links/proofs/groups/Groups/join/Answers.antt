@@ -2,7 +2,7 @@ use Rattle.std.proofs.Common.{◌≡◌, ℕ, ◌<◌, ◌≤◌, min, max, ltb,
 use Rattle.std.proofs.lemmas.List.{length-map}
 use Rattle.std.proofs.lemmas.Bool.{and_from, cond-true, lt-ltb}
 use Rattle.links.specs.Groups.{Roots, merged, relabelled}
-use Rattle.links.proofs.Roots.{relabelled_down, roots-merged}
+use Rattle.links.proofs.Roots.{relabelled_down, roots_merged}
 use Rattle.links.proofs.groups.Groups.join.Goals as goal
 
 pub invariant_of-self : goal.invariant_of-self
@@ -24,5 +24,5 @@ returns c =
     let both = and_from (ltb c.args.x 128) (ltb c.args.y 128) (lt-ltb _ _ c.if-x-ge-NAMES.false) (lt-ltb _ _ c.if-y-ge-NAMES.false) in
     record {
       relabels = is ∙ sym (cond-true _ _ _ both);
-      joins = λ links a b roots. subst (Roots _) (sym is) (roots-merged s.root s.long links c.args.x c.args.y a b roots);
+      joins = λ links a b roots. subst (Roots _) (sym is) (roots_merged s.root s.long links c.args.x c.args.y a b roots);
     }

@@ -4,7 +4,7 @@ use Rattle.links.specs.Chains.{joined}
 use Rattle.arrangement.specs.Meaning.{same}
 use Rattle.paired.specs.Held.{pairings_of}
 use Rattle.paired.specs.Pairings.{meaning_of}
-use Rattle.paired.specs.Same.{roots-joined, same_after, same_is}
+use Rattle.paired.specs.Same.{roots_joined, same_after, same_is}
 use Rattle.paired.proofs.pairing.PairedArrangement.same.Goals as goal
 
 pub returns-then-are_names : goal.returns-then-are_names
@@ -16,7 +16,7 @@ returns-then-are_names c =
     let low : i < 128 = omega (arith, ltb-true i s.names names.0, s.few) in
     let low' : j < 128 = omega (arith, ltb-true j s.names names.1, s.few) in
     let links = (pairings_of s).links in
-    let is = c.are_joined.ensures ∙ roots-joined links s.groups.root s.groups.long s.grouped i j low low' ∙ ap (λ t. t && joined links i j) c.if-are_names.ensures ∙ sym (same_is (pairings_of s) i j) in
+    let is = c.are_joined.ensures ∙ roots_joined links s.groups.root s.groups.long s.grouped i j low low' ∙ ap (λ t. t && joined links i j) c.if-are_names.ensures ∙ sym (same_is (pairings_of s) i j) in
     record { is = is; after = same_after (pairings_of s) i j c.are_joined.result is }
 
 pub returns-else-are_names : goal.returns-else-are_names
