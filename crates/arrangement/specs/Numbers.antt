@@ -1,5 +1,6 @@
 -- Names with a number each: what a list of numbers means, and how it is taken.
-use Rattle.std.specs.Prelude.{ℕ, cond, List, length, take, Ok, Err, Result, ◌==◌, nat_lt, slice_index}
+use Rattle.std.specs.Prelude.{ℕ, Bool, false, cond, List, length, Some, None, Ok, Err, Option, Result, ◌==◌, nat_lt, slice_index}
+use Rattle.bounded.specs.Items.{items_of}
 use Rattle.arrangement.specs.declared.assigned.Assigned.{Assigned}
 use Rattle.arrangement.specs.declared.refusal.Refusal.{Refusal}
 use Rattle.arrangement.specs.declared.refusal.Refusal.TheVariants.{TooManyNames}
@@ -7,7 +8,13 @@ use Rattle.arrangement.specs.Meaning.{Meaning}
 
 -- the numbers of the names, in their order
 abbrev pub numbers_of : Assigned → List ℕ
-numbers_of x = take x.count x.numbers
+numbers_of x = items_of x.numbers
+
+-- are both there, and equal?
+abbrev pub both_equal : {X : Type 0} → (X → X → Bool) → Option X → Option X → Bool
+both_equal equal None y = false
+both_equal equal (Some x) None = false
+both_equal equal (Some x) (Some y) = equal x y
 
 -- names are the same where their numbers are equal
 abbrev pub assigned_meaning : List ℕ → Meaning

@@ -1,29 +1,34 @@
--- Numbers that are kept in the front of a longer list.
-use Rattle.std.specs.Prelude.{◌≡◌, ℕ, ◌<◌, ◌≤◌, false, length, ◌==◌, nat_eq, slice_index, slice_index_or}
-use Rattle.std.proofs.Common.{sym, ◌∙◌, ap, arith}
-use Rattle.std.proofs.lemmas.List.{get_or-take, length-take-le}
+-- A list of numbers, of which equal ones mean the same, makes a lawful arrangement.
+use Rattle.std.specs.Prelude.{◌≡◌, ℕ, ◌≤◌, Bool, false, List, length, Some, None, Option, nat_eq, slice_get, slice_index, refl}
+use Rattle.std.proofs.Common.{◌∙◌, ap, ap₂, inl, inr}
+use Rattle.std.proofs.lemmas.Bool.{cases_lt}
+use Rattle.std.proofs.lemmas.Option.{slice_get-get_or, slice_get_past}
+use Rattle.bounded.specs.Laws.{few}
 use Rattle.arrangement.specs.declared.assigned.Assigned.{Assigned}
 use Rattle.arrangement.specs.Meaning.{Lawful, same}
-use Rattle.arrangement.specs.Numbers.{assigned_meaning, numbers_of}
+use Rattle.arrangement.specs.Numbers.{assigned_meaning, both_equal, numbers_of}
 use Rattle.arrangement.specs.Laws.{lawful_by, left_beyond, right_beyond, same_within}
 
-module _ (x : Assigned) where
-  pub size_is : length (numbers_of x) ≡ x.count
-  size_is = let l : x.count ≤ length x.numbers = omega (arith, x.small, x.long) in length-take-le x.count x.numbers l
+pub listed_lawful : (numbers : List ℕ) → length numbers ≤ 64 → Lawful (assigned_meaning numbers)
+listed_lawful numbers small = lawful_by (length numbers) (λ i. slice_index numbers i) small
 
-  pub lawful : Lawful (assigned_meaning (numbers_of x))
-  lawful = lawful_by (length (numbers_of x)) (λ i. slice_index (numbers_of x) i) (omega (arith, size_is, x.small))
+pub lawful : (x : Assigned) → Lawful (assigned_meaning (numbers_of x))
+lawful x = listed_lawful (numbers_of x) (few x.numbers)
 
-  module _ (i j : ℕ) where
-    pub same_numbers : i < x.count → j < x.count → (slice_index x.numbers i == slice_index x.numbers j) ≡ same (assigned_meaning (numbers_of x)) i j
-    same_numbers l k =
-        let at : (k : ℕ) → k < x.count → slice_index x.numbers k ≡ slice_index_or (numbers_of x) k 0 = λ k l. sym (get_or-take x.count x.numbers k 0 l) in
-        ap (λ n. nat_eq n (slice_index x.numbers j)) (at i l)
-        ∙ ap (λ n. nat_eq (slice_index (numbers_of x) i) n) (at j k)
-        ∙ same_within (assigned_meaning (numbers_of x)) i j (omega (arith, size_is)) (omega (arith, size_is))
+-- nothing equals what is not there
+none_right : (o : Option ℕ) → both_equal nat_eq o None ≡ false
+none_right None = refl
+none_right (Some x) = refl
 
-    pub no_left : x.count ≤ i → false ≡ same (assigned_meaning (numbers_of x)) i j
-    no_left l = left_beyond (assigned_meaning (numbers_of x)) i j (omega (arith, size_is))
-
-    pub no_right : x.count ≤ j → false ≡ same (assigned_meaning (numbers_of x)) i j
-    no_right l = right_beyond (assigned_meaning (numbers_of x)) i j (omega (arith, size_is))
+-- names are the same exactly where there are equal numbers for both
+module _ (numbers : List ℕ) (i j : ℕ) where
+  pub equal_is_same : both_equal nat_eq (slice_get numbers i) (slice_get numbers j) ≡ same (assigned_meaning numbers) i j
+  equal_is_same =
+      let m = assigned_meaning numbers in
+      elim (cases_lt i (length numbers)) [
+        | inl low ↦ elim (cases_lt j (length numbers)) [
+          | inl low' ↦ ap₂ (both_equal nat_eq) (slice_get-get_or numbers i 0 low) (slice_get-get_or numbers j 0 low') ∙ same_within m i j low low'
+          | inr past ↦ ap (both_equal nat_eq (slice_get numbers i)) (slice_get_past numbers j past) ∙ none_right (slice_get numbers i) ∙ right_beyond m i j past
+        ]
+        | inr past ↦ ap (λ o. both_equal nat_eq o (slice_get numbers j)) (slice_get_past numbers i past) ∙ left_beyond m i j past
+      ]

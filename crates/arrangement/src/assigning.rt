@@ -1,22 +1,14 @@
 //! Giving numbers to names.
 
-ghost use Rattle.std.specs.Prelude.{◌≡◌, [], length, nat_lt};
+ghost use Rattle.std.specs.Prelude.{◌≡◌, []};
 ghost use Rattle.arrangement.specs.Numbers.{assigned_meaning, fill_answer, filled, numbers_of};
 ghost use Rattle.arrangement.specs.NumbersLemmas.{lawful};
 
 use crate::Arrangement;
 use crate::assigned::Assigned;
+use crate::equals::are_equal;
 use crate::refusal::Refusal;
-
-/// How many names an arrangement has at the most.
-const MOST: usize = 64;
-
-/// Does the list have more numbers than there may be names?
-fn is_too_long(list: &[u32]) -> bool
-    ensures { result ≡ nat_lt 64 (length list.now) }
-{
-    list.len() > MOST
-}
+use bounded::Bounded;
 
 impl Assigned {
     /// No names yet.
@@ -24,8 +16,7 @@ impl Assigned {
         ensures { numbers_of result ≡ [] }
     {
         Assigned {
-            count: 0,
-            numbers: [0; 64],
+            numbers: Bounded::new(0),
         }
     }
 
@@ -34,12 +25,7 @@ impl Assigned {
         ensures answer { result ≡ fill_answer list.now }
         ensures holds { numbers_of self.new ≡ filled (numbers_of self.old) list.now }
     {
-        if is_too_long(list) {
-            return Err(Refusal::TooManyNames);
-        }
-        self.numbers[0..list.len()].copy_from_slice(list);
-        self.count = list.len() as u8;
-        Ok(())
+        self.numbers.fill(list).map_err(|_| Refusal::TooManyNames)
     }
 }
 
@@ -55,16 +41,10 @@ impl Arrangement for Assigned {
     ghost transitive = { λ x. (lawful x).through };
 
     fn count(&self) -> u8 {
-        self.count
+        self.numbers.len() as u8
     }
 
     fn same(&self, i: u8, j: u8) -> bool {
-        if i >= self.count {
-            return false;
-        }
-        if j >= self.count {
-            return false;
-        }
-        self.numbers[i as usize] == self.numbers[j as usize]
+        are_equal(self.numbers.get(i as usize), self.numbers.get(j as usize))
     }
 }

@@ -7,6 +7,7 @@ ghost use Rattle.arrangement.specs.Kept.{lawful};
 
 use crate::Arrangement;
 use crate::classes::Classes;
+use bounded::Bounded;
 
 /// An arrangement, and what it answered when this was made.
 #[derive(Drop)]
@@ -19,12 +20,7 @@ pub struct Classed<A> {
 fn lowest_in<A: Arrangement>(a: &A, i: u8) -> u8
     ensures { result ≡ lowest (A.Arrangement.meaning a.now) i }
 {
-    for j in 0..i {
-        if a.same(j, i) {
-            return j;
-        }
-    }
-    i
+    (0..i).find(|j| a.same(*j, i)).unwrap_or(i)
 }
 
 /// The lowest name of each class, by `count` and `same` alone.
@@ -32,12 +28,11 @@ fn classes_of<A: Arrangement>(a: &A) -> Classes
     ensures size { (classes_meaning result).size ≡ (A.Arrangement.meaning a.now).size }
     ensures agrees { (i j : ℕ) → same (classes_meaning result) i j ≡ same (A.Arrangement.meaning a.now) i j }
 {
-    let count = a.count();
-    let mut lowest = [0; 64];
-    for i in 0..count {
-        lowest[i as usize] = lowest_in(a, i);
+    let mut lowest = Bounded::new(0);
+    for i in 0..a.count() {
+        let _ = lowest.push(lowest_in(a, i));
     }
-    Classes { count, lowest }
+    Classes { lowest }
 }
 
 impl<A: Arrangement> Classed<A> {
@@ -55,11 +50,7 @@ impl<A: Arrangement> Classed<A> {
     pub fn lowest(&self, i: u8) -> Option<u8>
         ensures { result ≡ lowest_of (classes_meaning self.now.classes) i }
     {
-        if i < self.classes.count {
-            Some(self.classes.lowest[i as usize])
-        } else {
-            None
-        }
+        self.classes.lowest(i)
     }
 
     /// Gives the arrangement back.
@@ -83,16 +74,10 @@ impl<A: Arrangement> Arrangement for Classed<A> {
     ghost transitive = { λ x. (lawful x.classes).through };
 
     fn count(&self) -> u8 {
-        self.classes.count
+        self.classes.count()
     }
 
     fn same(&self, i: u8, j: u8) -> bool {
-        if i >= self.classes.count {
-            return false;
-        }
-        if j >= self.classes.count {
-            return false;
-        }
-        self.classes.lowest[i as usize] == self.classes.lowest[j as usize]
+        self.classes.same(i, j)
     }
 }

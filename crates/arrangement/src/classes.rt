@@ -1,13 +1,14 @@
 //! The lowest name of each class of names.
 
-ghost use Rattle.std.specs.Prelude.{◌≡◌, ℕ, ◌<◌, ◌≤◌, slice_index};
+ghost use Rattle.std.specs.Prelude.{◌≡◌, ℕ, ◌<◌, ◌≤◌, length, slice_index};
+ghost use Rattle.bounded.specs.Items.{items_of};
 
-/// For each name the lowest name that is the same.
+use bounded::Bounded;
+
+/// For each name, of at most 64, the lowest name that is the same.
 #[derive(Clone, Copy)]
 pub struct Classes {
-    pub count: u8,
-    pub lowest: [u8; 64],
-    ghost small: { count ≤ 64 },
-    ghost down: { (i : ℕ) → i < count → slice_index lowest i ≤ i },
-    ghost root: { (i : ℕ) → i < count → slice_index lowest (slice_index lowest i) ≡ slice_index lowest i },
+    pub(crate) lowest: Bounded<u8, 64>,
+    ghost down: { (i : ℕ) → i < length (items_of lowest) → slice_index (items_of lowest) i ≤ i },
+    ghost root: { (i : ℕ) → i < length (items_of lowest) → slice_index (items_of lowest) (slice_index (items_of lowest) i) ≡ slice_index (items_of lowest) i },
 }

@@ -9,6 +9,7 @@ mod assigned;
 mod assigning;
 mod classed;
 mod classes;
+mod equals;
 mod joined;
 mod refusal;
 mod stored;

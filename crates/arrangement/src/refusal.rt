@@ -7,13 +7,13 @@ ghost use Rattle.arrangement.specs.Refusals.{number_of};
 #[derive(Clone, Copy, PartialEq, Eq, Debug)]
 pub enum Refusal {
     /// there would be more than 64 names
-    TooManyNames,
+    TooManyNames = 21,
     /// a name is at or above the count
-    NameNotBelowCount,
+    NameNotBelowCount = 22,
     /// the one pair is set already
-    PairAlreadySet,
+    PairAlreadySet = 23,
     /// as many pairings are held as there is room for
-    TooManyPairings,
+    TooManyPairings = 24,
 }
 
 impl Refusal {
@@ -21,11 +21,6 @@ impl Refusal {
     pub fn number(self) -> u8
         ensures { result ≡ number_of self }
     {
-        match self {
-            Refusal::TooManyNames => 21,
-            Refusal::NameNotBelowCount => 22,
-            Refusal::PairAlreadySet => 23,
-            Refusal::TooManyPairings => 24,
-        }
+        self as u8
     }
 }

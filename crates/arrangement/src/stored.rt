@@ -6,17 +6,14 @@ ghost use Rattle.arrangement.specs.Kept.{lawful};
 
 use crate::Arrangement;
 use crate::classes::Classes;
+use crate::equals::are_equal;
 
 impl Classes {
     /// The lowest name that is the same as i, where i is a name.
     pub fn lowest(&self, i: u8) -> Option<u8>
         ensures { result ≡ lowest_of (classes_meaning self.now) i }
     {
-        if i < self.count {
-            Some(self.lowest[i as usize])
-        } else {
-            None
-        }
+        self.lowest.get(i as usize)
     }
 }
 
@@ -32,16 +29,10 @@ impl Arrangement for Classes {
     ghost transitive = { λ x. (lawful x).through };
 
     fn count(&self) -> u8 {
-        self.count
+        self.lowest.len() as u8
     }
 
     fn same(&self, i: u8, j: u8) -> bool {
-        if i >= self.count {
-            return false;
-        }
-        if j >= self.count {
-            return false;
-        }
-        self.lowest[i as usize] == self.lowest[j as usize]
+        are_equal(self.lowest.get(i as usize), self.lowest.get(j as usize))
     }
 }

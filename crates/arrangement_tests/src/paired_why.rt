@@ -2,6 +2,7 @@
 
 use arrangement::Refusal;
 use paired::store::Paired;
+use search::entry::Reached;
 use std::test::Fail;
 
 /// All names in a row, each paired with the next.
@@ -68,7 +69,10 @@ fn what_is_no_name_is_refused(rt: HostRuntime) -> Result<(), Fail> {
     let mut p = row()?;
     assert_eq!(rt; p.why(0, 64), Err(Refusal::NameNotBelowCount));
     assert_eq!(rt; p.why(64, 64), Err(Refusal::NameNotBelowCount));
-    assert_eq!(rt; p.why_measured(255, 0), Err(Refusal::NameNotBelowCount));
+    assert_eq!(rt;
+        p.why_by::<Reached>(255, 0),
+        Err(Refusal::NameNotBelowCount)
+    );
     assert_eq!(rt; p.pair(0, 64), Err(Refusal::NameNotBelowCount));
     assert_eq!(rt;
         p.why(0, 63),
@@ -85,7 +89,7 @@ fn both_searches_answer_the_same(rt: HostRuntime) -> Result<(), Fail> {
     p.pair(12, 3)?;
     for i in 0..66u8 {
         for j in 0..66u8 {
-            assert_eq!(rt; p.why_measured(i, j), p.why(i, j));
+            assert_eq!(rt; p.why_by::<Reached>(i, j), p.why(i, j));
         }
     }
     Ok(())

@@ -1,6 +1,6 @@
 //! The list, and what changes it.
 
-ghost use Rattle.std.specs.Prelude.{◌≡◌, ◌≤◌, [], ◌++◌, length, drop};
+ghost use Rattle.std.specs.Prelude.{◌≡◌, ◌≤◌, [], ◌++◌, length, drop, slice_get};
 
 use std::alloc::AllocError;
 
@@ -54,6 +54,20 @@ impl<T: Copy, const N: usize> Bounded<T, N> {
         ensures { result.now ≡ items_of self.now }
     {
         &self.slots[..self.len]
+    }
+
+    /// The item at place k, if there is one.
+    pub fn get(&self, k: usize) -> Option<T>
+        ensures { result ≡ slice_get (items_of self.now) k }
+    {
+        self.as_slice().get(k).copied()
+    }
+
+    /// How many items there are.
+    pub fn len(&self) -> usize
+        ensures { result ≡ length (items_of self.now) }
+    {
+        self.as_slice().len()
     }
 
     /// Adds an item at the end, where there is room.

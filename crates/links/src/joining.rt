@@ -5,6 +5,7 @@ ghost use Rattle.links.specs.Chains.{ChainsFound};
 ghost use Rattle.links.specs.Groups.{Roots, joined_roots, label_for, relabelled, root_of};
 
 use crate::groups::{Groups, NAMES};
+use std::array;
 
 /// The label, or `new` where it is `old`.
 fn label_for(label: u8, old: u8, new: u8) -> u8
@@ -27,22 +28,16 @@ impl Groups {
     pub fn new() -> Groups
         ensures { Roots [] result.root }
     {
-        let mut root = [0; 128];
-        for name in 0..128u8 {
-            root[name as usize] = name;
+        Groups {
+            root: array::from_fn(|name| name as u8),
         }
-        Groups { root }
     }
 
     /// The lowest name that a name is joined to; a name that is not below 128 is joined to none but itself.
     pub fn root(&self, name: u8) -> u8
         ensures { result ≡ root_of self.now.root name }
     {
-        if (name as usize) < NAMES {
-            self.root[name as usize]
-        } else {
-            name
-        }
+        self.root.get(name as usize).copied().unwrap_or(name)
     }
 
     /// Are the two names joined?

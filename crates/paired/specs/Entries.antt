@@ -1,34 +1,26 @@
 -- The pairings as a search reads them.
-use Rattle.std.specs.Prelude.{◌≡◌, ℕ, ◌<◌, ◌≤◌, List, [], ◌∷◌, map, length, Some, None, slice_index_or, refl}
-use Rattle.std.proofs.Common.{sym, ap, ◌∙◌, arith}
+use Rattle.std.specs.Prelude.{◌≡◌, ℕ, zero, suc, ◌<◌, List, [], ◌∷◌, map, length, Some, None, slice_get, slice_index_or, refl}
+use Rattle.std.proofs.Common.{ap}
 use Rattle.std.proofs.ByRecursion.{All-from_get_or, All-map}
-use Rattle.std.proofs.lemmas.List.{get_or-map, get_or_past, get_or-take, length-map}
+use Rattle.std.proofs.lemmas.List.{length-map}
 use Rattle.std.specs.List.{AllByRecursion}
+use Rattle.bounded.specs.Items.{items_of}
 use Rattle.search.specs.Entries.{Inside, present}
 use Rattle.paired.specs.declared.store.Paired.{Paired}
 use Rattle.paired.specs.Held.{entries_of, pairings_of}
-use Rattle.paired.specs.Asked.{held_length}
 
-pub entries_length : (x : Paired) → length (entries_of x) ≡ x.len
-entries_length x = length-map (pairings_of x).links (λ p. Some p) ∙ held_length x
+pub entries_length : (x : Paired) → length (entries_of x) ≡ length (items_of x.pairs)
+entries_length x = length-map (items_of x.pairs) (λ p. Some p)
 
-module _ (x : Paired) (k : ℕ) where
-  pub entry_at : k < x.len → Some (slice_index_or x.pairs k (0, 0)) ≡ slice_index_or (entries_of x) k None
-  entry_at within =
-      ap (λ p. Some p) (sym (get_or-take x.len x.pairs k (0, 0) within))
-      ∙ sym (get_or-map (λ p. Some p) (pairings_of x).links k (0, 0) None (omega (arith, held_length x)))
-
-  pub entry_past : x.len ≤ k → None ≡ slice_index_or (entries_of x) k None
-  entry_past past = sym (get_or_past (entries_of x) k None (omega (arith, entries_length x)))
+pub entry_at : (links : List (ℕ × ℕ)) (k : ℕ) → slice_get links k ≡ slice_index_or (map Some links) k None
+entry_at [] k = refl
+entry_at (l ∷ links) zero = refl
+entry_at (l ∷ links) (suc k) = entry_at links k
 
 pub entries_inside : (x : Paired) → AllByRecursion (Inside x.names) (entries_of x)
 entries_inside x =
-    All-map (Inside x.names) (λ p. Some p) (pairings_of x).links
-    (All-from_get_or (λ p. (p.0 < x.names) × (p.1 < x.names)) (pairings_of x).links (0, 0)
-    (λ k within.
-    let low : k < x.len = omega (arith, held_length x) in
-    let is = get_or-take x.len x.pairs k (0, 0) low in
-    (rw is (x.first k low), rw is (x.second k low))))
+    All-map (Inside x.names) (λ p. Some p) (items_of x.pairs)
+    (All-from_get_or (λ p. (p.0 < x.names) × (p.1 < x.names)) (items_of x.pairs) (0, 0) (λ k within. (x.first k within, x.second k within)))
 
 -- every entry is a link
 pub all_present : (links : List (ℕ × ℕ)) → present (map (λ p. Some p) links) ≡ links

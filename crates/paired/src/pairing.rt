@@ -10,13 +10,11 @@ ghost use Rattle.paired.specs.Same;
 
 use crate::store::Paired;
 use arrangement::{Arrangement, Refusal};
+use bounded::Bounded;
 use links::groups::Groups;
 
 /// How many names there are at the most.
 const MOST_NAMES: u8 = 64;
-
-/// How many pairings are held at the most.
-const MOST_PAIRINGS: usize = 256;
 
 impl Paired {
     /// No names, and so no pairings.
@@ -25,8 +23,7 @@ impl Paired {
     {
         Paired {
             names: 0,
-            len: 0,
-            pairs: [(0, 0); 256],
+            pairs: Bounded::new((0, 0)),
             groups: Groups::new(),
         }
     }
@@ -40,7 +37,7 @@ impl Paired {
             return Err(Refusal::TooManyNames);
         }
         self.names = names;
-        self.len = 0;
+        self.pairs.clear();
         self.groups = Groups::new();
         Ok(())
     }
@@ -52,41 +49,19 @@ impl Paired {
         i < self.names && j < self.names
     }
 
-    /// Why a pairing is refused, if it is.
-    fn pair_questions(&self, i: u8, j: u8) -> Option<Refusal>
-        ensures { result ≡ pair_questions (pairings_of self.now) i j }
-    {
-        if !self.are_names(i, j) {
-            return Some(Refusal::NameNotBelowCount);
-        }
-        if self.len >= MOST_PAIRINGS {
-            return Some(Refusal::TooManyPairings);
-        }
-        None
-    }
-
-    /// Holds a pairing more.
-    fn add(&mut self, i: u8, j: u8)
-        requires asked { pair_questions (pairings_of self.old) i j ≡ None }
-        ensures { pairings_of self.new ≡ with_pair (pairings_of self.old) i j }
-    {
-        self.pairs[self.len] = (i, j);
-        self.len += 1;
-        self.groups.join(i, j);
-    }
-
     /// Pairs two names.
     pub fn pair(&mut self, i: u8, j: u8) -> Result<(), Refusal>
         ensures answer { result ≡ answer (pair_questions (pairings_of self.old) i j) tt }
         ensures holds { pairings_of self.new ≡ with_pair (pairings_of self.old) i j }
     {
-        match self.pair_questions(i, j) {
-            Some(refusal) => Err(refusal),
-            None => {
-                self.add(i, j);
-                Ok(())
-            }
+        if !self.are_names(i, j) {
+            return Err(Refusal::NameNotBelowCount);
         }
+        self.pairs
+            .push((i, j))
+            .map_err(|_| Refusal::TooManyPairings)?;
+        self.groups.join(i, j);
+        Ok(())
     }
 }
 

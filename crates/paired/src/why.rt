@@ -2,7 +2,6 @@
 
 ghost use Rattle.std.specs.Prelude.{◌≡◌, ◌==◌, nat_eq};
 ghost use Rattle.links.specs.Chains.{Nearest};
-ghost use Rattle.search.specs.Entries.{searched};
 ghost use Rattle.paired.specs.Held.{entries_of, pairings_of};
 ghost use Rattle.paired.specs.Pairings.{answer, name_questions, why_of};
 ghost use Rattle.paired.specs.Entries.{entries_inside};
@@ -10,7 +9,7 @@ ghost use Rattle.std.proofs.Common.{arith};
 
 use crate::store::Paired;
 use arrangement::Refusal;
-use search::entry::{Entry, Reached};
+use search::entry::Entry;
 use search::goal::Goal;
 use search::linked::Links;
 use search::search::search;
@@ -41,44 +40,32 @@ impl Links for Paired {
     }
 
     fn len(&self) -> usize {
-        self.len
+        self.pairs.len()
     }
 
     fn link(&self, k: usize) -> Option<(u8, u8)> {
-        if k < self.len {
-            Some(self.pairs[k])
-        } else {
-            None
-        }
+        self.pairs.get(k)
     }
 }
 
 impl Paired {
-    /// The fewest pairings in a chain from i to j, by a search whose entries are of any kind.
-    fn fewest_by<E: Entry>(&self, i: u8, j: u8) -> Option<u8>
-        ensures { result ≡ searched self.now.names (pairings_of self.now).links (λ y. nat_eq y j) i }
-    {
-        search::<Paired, Target, E>(self, &Target(j), i)
-    }
-
-    /// The fewest pairings in a chain that joins two names, none where no chain does, and 0 for a name and itself.
-    pub fn why(&self, i: u8, j: u8) -> Result<Option<u8>, Refusal>
+    /// The fewest pairings in a chain that joins two names, none where no chain does, and 0 for a name and itself: by a search
+    /// whose entries are of any kind.
+    pub fn why_by<E: Entry>(&self, i: u8, j: u8) -> Result<Option<u8>, Refusal>
         ensures is { result ≡ answer (name_questions (pairings_of self.now) i j) (why_of (pairings_of self.now) i j) }
         ensures nearest { Nearest (pairings_of self.now).links (λ y. nat_eq y j) i (why_of (pairings_of self.now) i j) }
     {
         if !self.are_names(i, j) {
             return Err(Refusal::NameNotBelowCount);
         }
-        Ok(self.fewest_by::<u8>(i, j))
+        Ok(search::<Paired, Target, E>(self, &Target(j), i))
     }
 
-    /// What `why` answers, by a search whose entries also say how far a name is.
-    pub fn why_measured(&self, i: u8, j: u8) -> Result<Option<u8>, Refusal>
-        ensures { result ≡ answer (name_questions (pairings_of self.now) i j) (why_of (pairings_of self.now) i j) }
+    /// So, by a search of bare names.
+    pub fn why(&self, i: u8, j: u8) -> Result<Option<u8>, Refusal>
+        ensures is { result ≡ answer (name_questions (pairings_of self.now) i j) (why_of (pairings_of self.now) i j) }
+        ensures nearest { Nearest (pairings_of self.now).links (λ y. nat_eq y j) i (why_of (pairings_of self.now) i j) }
     {
-        if !self.are_names(i, j) {
-            return Err(Refusal::NameNotBelowCount);
-        }
-        Ok(self.fewest_by::<Reached>(i, j))
+        self.why_by::<u8>(i, j)
     }
 }

@@ -1,18 +1,11 @@
 -- What is stored agrees with what was asked.
-use Rattle.std.proofs.Common.{◌≡◌, ℕ, ◌<◌, ◌≢◌, length, get_or, arith, length-set, get_or-set_other, get_or-set_same, below_more}
+use Rattle.std.proofs.Common.{◌≡◌, ℕ, ◌<◌, length, get_or, arith}
+use Rattle.bounded.specs.Items.{items_of}
 use Rattle.arrangement.specs.Meaning.{Lawful, lowest}
 use Rattle.arrangement.specs.Kept.{agrees, down_from, root_from}
 use Rattle.arrangement.specs.Laws.{lawful_each}
 use Rattle.arrangement.proofs.classed.classes_of.Given.{Over}
 use Rattle.arrangement.proofs.classed.classes_of.Goals as goal
-
-pub loop-i-preserved : goal.loop-i-preserved
-loop-i-preserved g c = (
-  simp length-set c.loop-i.invariant.0,
-  below_more _ _
-      (λ k h. let ne : k ≢ c.loop-i.i = omega arith in rw get_or-set_other (c.loop-i.invariant.1 k h))
-      (let lt : c.loop-i.i < length c.loop-i.lowest = omega (arith, g.met.A.Arrangement.bounded c.args.a.now) in rw get_or-set_same c.lowest_in.ensures),
-)
 
 abbrev law : (g : Over) (a : g.row.A.Denot) → Lawful (g.A.Arrangement.meaning a)
 law g =
@@ -22,20 +15,20 @@ law g =
 pub invariant_of-result : goal.invariant_of-result
 invariant_of-result g c =
     let a = c.args.a.now in
-    let m = g.A.Arrangement.meaning a in
-    let e = c.count-count.ensures in
-    let stored : (k : ℕ) → k < c.count-count.result → get_or c.loop-i.lowest k 0 ≡ lowest m k = λ k l. c.loop-i.invariant.1 k (omega arith) in
+    let listed = c.loop-i.invariant in
+    let e : length (items_of c.loop-i.lowest) ≡ (g.A.Arrangement.meaning a).size = omega (arith, listed.0, c.count-i-end.ensures) in
+    let stored : (k : ℕ) → k < length (items_of c.loop-i.lowest) → get_or (items_of c.loop-i.lowest) k 0 ≡ lowest (g.A.Arrangement.meaning a) k = λ k l. listed.1 k (omega (arith, listed.0)) in
     record {
-      small = omega (arith, (law g a).small);
-      down = down_from m (law g a) _ _ e stored;
-      root = root_from m (law g a) _ _ e stored;
+      down = down_from _ (law g a) _ e stored;
+      root = root_from _ (law g a) _ e stored;
     }
 
 pub returns : goal.returns
 returns g c =
     let a = c.args.a.now in
-    let e = c.count-count.ensures in
+    let listed = c.loop-i.invariant in
+    let e : length (items_of c.loop-i.lowest) ≡ (g.A.Arrangement.meaning a).size = omega (arith, listed.0, c.count-i-end.ensures) in
     record {
       size = e;
-      agrees = agrees (g.A.Arrangement.meaning a) (law g a) _ _ e (λ k l. c.loop-i.invariant.1 k (omega arith));
+      agrees = agrees (g.A.Arrangement.meaning a) (law g a) _ e (λ k l. listed.1 k (omega (arith, listed.0)));
     }

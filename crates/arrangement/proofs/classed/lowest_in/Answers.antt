@@ -1,15 +1,22 @@
 -- The first name that is the same is the lowest.
-use Rattle.std.proofs.Common.{sym, refl, inl, inr, arith, below_more}
+use Rattle.std.proofs.Common.{◌≡◌, ℕ, ◌<◌, ◌≤◌, true, false, Some, None, Option, MatchOption, ◌∙◌, refl, inl, inr, rules, arith}
+use Rattle.std.specs.Option.{unwrap_or}
+use Rattle.std.proofs.lemmas.Iterator.{first_from_Range}
+use Rattle.arrangement.specs.Meaning.{Meaning, lowest, same}
 use Rattle.arrangement.specs.Lowest.{lowest_is}
 use Rattle.arrangement.proofs.classed.lowest_in.Goals as goal
 
-pub returns-then-same : goal.returns-then-same
-returns-then-same g c =
-    lowest_is (g.A.Arrangement.meaning c.args.a.now) c.loop-j.j c.args.i (omega arith) c.loop-j.invariant (inl (sym c.if-same.ensures))
-
-pub loop-j-preserved : goal.loop-j-preserved
-loop-j-preserved g c = below_more _ _ c.loop-j.invariant (sym c.if-same.ensures)
+found : (m : Meaning) (i : ℕ) (r : Option ℕ)
+    → MatchOption r ((k : ℕ) → 0 ≤ k → k < i → same m k i ≡ false) (λ j. (0 ≤ j) × (j < i) × (same m j i ≡ true) × ((k : ℕ) → 0 ≤ k → k < j → same m k i ≡ false))
+    → unwrap_or r i ≡ lowest m i
+found m i None none = lowest_is m i i (omega arith) (λ k l. none k (omega arith) l) (inr refl)
+found m i (Some j) one = lowest_is m j i (omega (arith, one.1)) (λ k l. one.3 k (omega arith) l) (inl one.2)
 
 pub returns : goal.returns
 returns g c =
-    lowest_is (g.A.Arrangement.meaning c.args.a.now) c.args.i c.args.i (omega arith) (λ k l. c.loop-j.invariant k (omega arith)) (inr refl)
+    let m = g.A.Arrangement.meaning c.args.a.now in
+    c.unwrap_or.ensures
+    ∙ found m c.args.i c.find.result
+    (first_from_Range _ _ _ _ (λ j. same m j c.args.i ≡ true) (λ j. same m j c.args.i ≡ false) c.find.ensures.ran
+    (λ j q h. search rules)
+    (λ j q h. (search rules, search rules)))

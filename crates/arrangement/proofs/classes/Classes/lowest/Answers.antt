@@ -1,10 +1,6 @@
--- What is stored for a name is its lowest.
-use Rattle.std.proofs.Common.{Some, None, ap, ◌∙◌}
-use Rattle.std.proofs.lemmas.Bool.{cond_below}
-use Rattle.arrangement.specs.Kept.{stored_lowest}
+use Rattle.std.proofs.Common.{◌∙◌}
+use Rattle.arrangement.specs.Kept.{looked_up}
 use Rattle.arrangement.proofs.classes.Classes.lowest.Goals as goal
 
-pub returns-then-i-self : goal.returns-then-i-self
-returns-then-i-self c =
-    ap Some (stored_lowest c.args.self.now c.args.i c.if-i-self.true)
-    ∙ cond_below c.args.i c.args.self.now.count _ None c.if-i-self.true
+pub returns : goal.returns
+returns c = c.get.ensures ∙ looked_up c.args.self.now c.args.i

@@ -1,14 +1,7 @@
--- Names are the same where their lowest names are one.
-use Rattle.std.proofs.Common.{arith}
-use Rattle.arrangement.specs.Stored.{classes_meaning}
-use Rattle.arrangement.specs.Laws.{left_beyond, right_beyond, same_within}
+use Rattle.std.proofs.Common.{nat_eq, ap₂, ◌∙◌}
+use Rattle.arrangement.specs.Numbers.{both_equal}
+use Rattle.arrangement.specs.NumbersLemmas.{equal_is_same}
 use Rattle.arrangement.proofs.stored.ClassesArrangement.same.Goals as goal
 
-pub returns-then-i-self : goal.returns-then-i-self
-returns-then-i-self c = left_beyond (classes_meaning c.args.self.now) c.args.i c.args.j (omega arith)
-
-pub returns-then-j-self : goal.returns-then-j-self
-returns-then-j-self c = right_beyond (classes_meaning c.args.self.now) c.args.i c.args.j (omega arith)
-
 pub returns : goal.returns
-returns c = same_within (classes_meaning c.args.self.now) c.args.i c.args.j (omega arith) (omega arith)
+returns c = c.are_equal.ensures ∙ ap₂ (both_equal nat_eq) c.get.ensures c.get-2.ensures ∙ equal_is_same _ c.args.i c.args.j

@@ -1,18 +1,14 @@
-use Rattle.std.proofs.Common.{◌<◌, ◌≢◌, length, ◌∙◌, arith, below_more}
-use Rattle.std.proofs.lemmas.List.{get_or-set_other, get_or-set_same, length-set}
+use Rattle.std.proofs.Common.{◌≡◌, ℕ, ◌<◌, get_or, ◌∙◌, arith, rules}
 use Rattle.links.proofs.Roots.{alone}
 use Rattle.links.proofs.groups.Groups.new.Goals as goal
 
-pub loop-name-preserved : goal.loop-name-preserved
-loop-name-preserved c = (
-  simp length-set c.loop-name.invariant.0,
-  below_more _ _
-      (λ k h. let ne : k ≢ c.loop-name.name = omega arith in rw get_or-set_other (c.loop-name.invariant.1 k h))
-      (let lt : c.loop-name.name < length c.loop-name.root = omega arith in rw get_or-set_same),
-)
-
+-- each name stands for itself
 pub invariant_of-result : goal.invariant_of-result
-invariant_of-result c = record { long = c.loop-name.invariant.0; down = λ t l. omega (arith, c.loop-name.invariant.1 t (omega arith)) }
+invariant_of-result c =
+    let itself : (t : ℕ) → t < 128 → get_or c.from_fn.result t 0 ≡ t = λ t l. let call = c.from_fn.ensures.items.at t 0 l in search rules in
+    record { long = c.from_fn.ensures.items.long; down = λ t l. omega (arith, itself t l) }
 
 pub returns : goal.returns
-returns c = record { low = λ t l. c.loop-name.invariant.1 t (omega arith) ∙ alone t }
+returns c =
+    let itself : (t : ℕ) → t < 128 → get_or c.from_fn.result t 0 ≡ t = λ t l. let call = c.from_fn.ensures.items.at t 0 l in search rules in
+    record { low = λ t l. itself t l ∙ alone t }

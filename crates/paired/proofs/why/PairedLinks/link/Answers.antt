@@ -1,8 +1,7 @@
-use Rattle.paired.specs.Entries.{entry_at, entry_past}
+use Rattle.std.proofs.Common.{◌∙◌}
+use Rattle.bounded.specs.Items.{items_of}
+use Rattle.paired.specs.Entries.{entry_at}
 use Rattle.paired.proofs.why.PairedLinks.link.Goals as goal
 
-pub returns-then-k-self : goal.returns-then-k-self
-returns-then-k-self c = entry_at c.args.self.now c.args.k c.if-k-self.true
-
-pub returns-else-k-self : goal.returns-else-k-self
-returns-else-k-self c = entry_past c.args.self.now c.args.k c.if-k-self.false
+pub returns : goal.returns
+returns c = c.get.ensures ∙ entry_at (items_of c.args.self.now.pairs) c.args.k

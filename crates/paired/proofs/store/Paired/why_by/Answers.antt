@@ -1,11 +1,13 @@
-use Rattle.std.proofs.Common.{eqb, sym}
+use Rattle.std.proofs.Common.{eqb, sym, ap, ◌∙◌}
 use Rattle.links.proofs.Fewest.{nearest}
+use Rattle.search.specs.Entries.{searched}
+use Rattle.paired.specs.Entries.{all_present}
 use Rattle.paired.specs.Held.{pairings_of}
 use Rattle.paired.proofs.Answered.{why_found, why_refused}
-use Rattle.paired.proofs.store.Paired.why.Goals as goal
+use Rattle.paired.proofs.store.Paired.why_by.Goals as goal
 
 pub returns-then-not-are_names : goal.returns-then-not-are_names
-returns-then-not-are_names c =
+returns-then-not-are_names g c =
     let p = pairings_of c.args.self.now in
     record {
       is = why_refused p c.args.i c.args.j (sym c.if-not-are_names.ensures);
@@ -13,9 +15,10 @@ returns-then-not-are_names c =
     }
 
 pub returns : goal.returns
-returns c =
+returns g c =
     let p = pairings_of c.args.self.now in
+    let found = c.search.ensures.is ∙ ap (λ links. searched p.count links (λ y. eqb y c.args.j) c.args.i) (all_present p.links) in
     record {
-      is = why_found p c.args.i c.args.j c.fewest_by.result (sym c.if-not-are_names.ensures) c.fewest_by.ensures;
+      is = why_found p c.args.i c.args.j c.search.result (sym c.if-not-are_names.ensures) found;
       nearest = nearest p.links (λ y. eqb y c.args.j) c.args.i;
     }
