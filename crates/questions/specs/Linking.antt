@@ -1,12 +1,11 @@
 -- The links of a column, gathered.
-use Rattle.std.specs.Prelude.{◌≡◌, ℕ, ◌+◌, ◌<◌, ◌≤◌, Bool, true, ◌&&◌, List, [], ◌∷◌, ◌++◌, map, length, take, Some, None, Option, nat_lt, slice_index_or, slice_set, refl}
-use Rattle.std.proofs.Common.{sym, ap, ◌∙◌, arith}
+use Rattle.std.specs.Prelude.{◌≡◌, ℕ, zero, suc, Bool, true, ◌&&◌, List, [], ◌∷◌, map, Some, None, Option, nat_lt, slice_get, slice_index_or, refl}
+use Rattle.std.proofs.Common.{sym}
 use Rattle.std.proofs.lemmas.List.{get_or_past, get_or-take, length-take-le, map_more, take_all, take_more_set}
 use Rattle.std.proofs.lemmas.Bool.{and_from, and_parts, cond_both, ltb-true}
 use Rattle.std.specs.List.{AllByRecursion}
+use Rattle.std.specs.Option.{option_flatten}
 use Rattle.links.specs.Lists.{all_of}
-use Rattle.column.specs.Naming.{setting_of}
-use Rattle.column.specs.declared.naming.Naming.{Naming}
 use Rattle.meaning.specs.declared.column.Column.{Column}
 use Rattle.meaning.specs.Columns.{here, link_at}
 use Rattle.meaning.specs.Fillings.{Setting, is_named, is_within}
@@ -16,7 +15,6 @@ use Rattle.statement.specs.declared.Statement.{Statement}
 use Rattle.statement.specs.declared.Statement.TheVariants.{W, R, E, D}
 use Rattle.questions.specs.Asked.{links_in, list_in, setting_in}
 use Rattle.questions.specs.Links.{is_inside}
-use Rattle.questions.specs.declared.gathered.Gathered.{Gathered}
 use Rattle.questions.specs.Stands.{within}
 
 -- Links below a count, as a search has it.
@@ -55,27 +53,8 @@ module _ (n : ℕ) (w : Setting) (k : Column) where
 pub links_inside : (s : Standing) (k : Column) → all_of (is_inside s.tables) (links_in s k) ≡ true
 links_inside s k = map_inside s.tables (setting_in s) k (list_in s) (within s)
 
--- One statement after another.
-module _ (f : Statement → Option (ℕ × ℕ)) (xs : List Statement) (links : List (Option (ℕ × ℕ))) where
-  pub gathered_more : (i : ℕ) (d : Statement) (link : Option (ℕ × ℕ)) → i < length xs → i < length links
-      → take i links ≡ map f (take i xs) → link ≡ f (slice_index_or xs i d) → take (i + 1) (slice_set links i link) ≡ map f (take (i + 1) xs)
-  gathered_more i d link l m h e =
-      take_more_set links i link m ∙ ap (λ ls. ls ++ link ∷ []) h ∙ ap (λ l. map f (take i xs) ++ l ∷ []) e ∙ sym (map_more f xs i d l)
-
-pub gathered_all : (s : Standing) (k : Column) (n : Naming) (xs : List Statement) (links : List (Option (ℕ × ℕ))) (i : ℕ)
-    → n ≡ s.naming → xs ≡ list_in s → i ≡ length xs → take i links ≡ map (link_at (setting_of n) k) (take i xs)
-    → take (length xs) links ≡ links_in s k
-gathered_all s k n xs links i named listed end h =
-    ap (λ (i : ℕ). take i links) (sym end) ∙ h ∙ ap (map (link_at (setting_of n) k)) (take_all i xs (omega arith))
-    ∙ (λ j. map (link_at (setting_of (named j)) k) (listed j))
-
--- What was gathered, link by link.
-module _ (x : Gathered) where
-  pub held_length : length (take x.len x.links) ≡ x.len
-  held_length = length-take-le x.len x.links (omega (arith, x.fits, x.long))
-
-  pub link_here : (i : ℕ) → i < x.len → slice_index_or x.links i None ≡ slice_index_or (take x.len x.links) i None
-  link_here i l = sym (get_or-take x.len x.links i None l)
-
-  pub link_past : (i : ℕ) → x.len ≤ i → None ≡ slice_index_or (take x.len x.links) i None
-  link_past i l = sym (get_or_past (take x.len x.links) i None (omega (arith, held_length)))
+-- what is looked up of links with gaps
+pub link_here : (links : List (Option (ℕ × ℕ))) (i : ℕ) → option_flatten (slice_get links i) ≡ slice_index_or links i None
+link_here [] i = refl
+link_here (l ∷ links) zero = refl
+link_here (l ∷ links) (suc i) = link_here links i

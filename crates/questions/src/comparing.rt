@@ -8,61 +8,68 @@ ghost use Rattle.meaning.specs.Columns.{columns};
 ghost use Rattle.questions.specs.Asked.{apart_answer, list_in, setting_in, unlike_at, unlike_class};
 
 use crate::sighting::{lowest_slot, sight_in};
+use arrangement::Arrangement;
 use meaning::{Apart, Column};
 use standing::Standing;
 use statement::{Slot, Table};
 
-/// Are the tables not alike at the column?
-fn are_unlike(standing: &Standing, column: Column, a: u8, b: u8) -> bool
-    ensures { a < standing.now.tables → b < standing.now.tables → Member column (columns (setting_in standing.now)) → result ≡ unlike_at standing.now a b column }
-{
-    !sight_in(standing, column).are_alike(a, b)
+/// Two of the tables.
+#[derive(Clone, Copy)]
+struct Couple<'a> {
+    standing: &'a Standing,
+    a: u8,
+    b: u8,
+    ghost first: { a < standing.now.tables },
+    ghost second: { b < standing.now.tables },
 }
 
 /// Is c the lowest name of its slot class?
 fn is_lowest(standing: &Standing, c: u8) -> bool
     ensures { c < (setting_in standing.now).slots.size → result ≡ (lowest (setting_in standing.now).slots c == c) }
 {
-    match lowest_slot(standing, c) {
-        Some(low) => low == c,
-        None => false,
-    }
+    lowest_slot(standing, c).is_some_and(|low| low == c)
 }
 
-/// Is c the lowest name of a slot class at which the tables are not alike?
-fn is_unlike_class(standing: &Standing, c: u8, a: u8, b: u8) -> bool
-    ensures { a < standing.now.tables → b < standing.now.tables → c < (setting_in standing.now).slots.size → result ≡ unlike_class standing.now a b c }
-{
-    if !is_lowest(standing, c) {
-        return false;
+impl Couple<'_> {
+    /// Are the tables not alike at the column?
+    fn are_unlike(&self, column: Column) -> bool
+        ensures { Member column (columns (setting_in self.now.standing.now)) → result ≡ unlike_at self.now.standing.now self.now.a self.now.b column }
+    {
+        !sight_in(self.standing, column).are_alike(self.a, self.b)
     }
-    are_unlike(standing, Column::At(Slot(c)), a, b)
-}
 
-/// The slot classes at which the tables are not alike: a bit for the lowest name of each.
-fn unlike_classes(standing: &Standing, a: u8, b: u8) -> u64
-    ensures { a < standing.now.tables → b < standing.now.tables → result ≡ bits_of (unlike_columns (setting_in standing.now) (list_in standing.now) (a, b)) }
-{
-    let mut set = 0;
-    for c in 0..standing.naming().slots.count {
-        if is_unlike_class(standing, c, a, b) {
-            set |= 1 << c;
+    /// Is c the lowest name of a slot class at which the tables are not alike?
+    fn is_unlike_class(&self, c: u8) -> bool
+        ensures { c < (setting_in self.now.standing.now).slots.size → result ≡ unlike_class self.now.standing.now self.now.a self.now.b c }
+    {
+        is_lowest(self.standing, c) && self.are_unlike(Column::At(Slot(c)))
+    }
+
+    /// The slot classes at which the tables are not alike: a bit for the lowest name of each.
+    fn unlike_classes(&self) -> u64
+        ensures { result ≡ bits_of (unlike_columns (setting_in self.now.standing.now) (list_in self.now.standing.now) (self.now.a, self.now.b)) }
+    {
+        let mut set = 0;
+        for c in 0..self.standing.naming().slots.count() {
+            if self.is_unlike_class(c) {
+                set |= 1 << c;
+            }
         }
+        set
     }
-    set
-}
 
-/// At how many slots the tables can differ: without limit where they are not alike elsewhere.
-fn apart_at(standing: &Standing, a: u8, b: u8) -> Apart
-    ensures { a < standing.now.tables → b < standing.now.tables → result ≡ apart_of (setting_in standing.now) (list_in standing.now) a b }
-{
-    if are_unlike(standing, Column::Elsewhere, a, b) {
-        return Apart::NoLimit;
-    }
-    let set = unlike_classes(standing, a, b);
-    Apart::Limit {
-        set,
-        count: set.count_ones(),
+    /// At how many slots the tables can differ: without limit where they are not alike elsewhere.
+    fn apart(&self) -> Apart
+        ensures { result ≡ apart_of (setting_in self.now.standing.now) (list_in self.now.standing.now) self.now.a self.now.b }
+    {
+        if self.are_unlike(Column::Elsewhere) {
+            return Apart::NoLimit;
+        }
+        let set = self.unlike_classes();
+        Apart::Limit {
+            set,
+            count: set.count_ones(),
+        }
     }
 }
 
@@ -74,5 +81,10 @@ pub fn apart(standing: &Standing, a: Table, b: Table) -> Option<Apart>
     if a.0 >= tables || b.0 >= tables {
         return None;
     }
-    Some(apart_at(standing, a.0, b.0))
+    let couple = Couple {
+        standing,
+        a: a.0,
+        b: b.0,
+    };
+    Some(couple.apart())
 }

@@ -1,18 +1,18 @@
 //! The links of a column, gathered once for a search.
 
-ghost use Rattle.std.specs.Prelude.{◌≡◌, ◌≤◌, true, length, take};
+ghost use Rattle.std.specs.Prelude.{◌≡◌, ◌≤◌, true};
+ghost use Rattle.bounded.specs.Items.{items_of};
 ghost use Rattle.links.specs.Lists.{all_of};
 ghost use Rattle.questions.specs.Links.{is_inside};
+
+use bounded::Bounded;
 
 /// Links between tables, with a gap for each statement that links none: a search asks for every link again and again, and
 /// reads them here as they stand.
 #[derive(Clone, Copy)]
 pub(crate) struct Gathered {
     pub(crate) tables: u8,
-    pub(crate) len: usize,
-    pub(crate) links: [Option<(u8, u8)>; 512],
+    pub(crate) links: Bounded<Option<(u8, u8)>, 512>,
     ghost few: { tables ≤ 128 },
-    ghost fits: { len ≤ 512 },
-    ghost long: { length links ≡ 512 },
-    ghost inside: { all_of (is_inside tables) (take len links) ≡ true },
+    ghost inside: { all_of (is_inside tables) (items_of links) ≡ true },
 }

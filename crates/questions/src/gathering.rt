@@ -1,10 +1,12 @@
 //! Gathering the links of a column, and what a search asks of them.
 
-ghost use Rattle.std.specs.Prelude.{◌≡◌, take};
+ghost use Rattle.std.specs.Prelude.{◌≡◌};
+ghost use Rattle.bounded.specs.Items.{items_of};
 ghost use Rattle.questions.specs.Asked.{links_in};
 ghost use Rattle.questions.specs.Linking.{all_inside};
 
 use crate::gathered::Gathered;
+use bounded::Bounded;
 use column::link_at;
 use meaning::Column;
 use search::linked::Links;
@@ -13,39 +15,37 @@ use standing::Standing;
 /// What the standing statements link at the column.
 pub(crate) fn gather(standing: &Standing, column: Column) -> Gathered
     ensures tables { result.tables ≡ standing.now.tables }
-    ensures links { take result.len result.links ≡ links_in standing.now column }
+    ensures links { items_of result.links ≡ links_in standing.now column }
 {
     let naming = standing.naming();
-    let list = standing.statements();
-    let mut links = [None; 512];
-    for k in 0..list.len() {
-        links[k] = link_at(naming, column, list[k]);
+    let mut links = Bounded::new(None);
+    for x in standing.statements() {
+        let _ = links.push(link_at(naming, column, *x));
     }
     Gathered {
         tables: standing.tables(),
-        len: list.len(),
         links,
     }
 }
 
 impl Links for Gathered {
-    ghost entries = { λ x. take x.len x.links };
+    ghost entries = { λ x. items_of x.links };
 
     ghost count = { λ x. x.tables };
 
     ghost few = { λ x. x.few };
 
-    ghost inside = { λ x. all_inside x.tables (take x.len x.links) x.inside };
+    ghost inside = { λ x. all_inside x.tables (items_of x.links) x.inside };
 
     fn names(&self) -> usize {
         self.tables as usize
     }
 
     fn len(&self) -> usize {
-        self.len
+        self.links.len()
     }
 
     fn link(&self, k: usize) -> Option<(u8, u8)> {
-        if k < self.len { self.links[k] } else { None }
+        self.links.get(k).flatten()
     }
 }

@@ -23,22 +23,14 @@ pub(crate) struct Marked<'a> {
 fn marks(naming: &Naming, column: Column, x: Statement, table: u8) -> bool
     ensures { result ≡ bears (present (mark_at (setting_of naming.now) column x ∷ [])) table }
 {
-    match mark_at(naming, column, x) {
-        Some((t, _)) => t == table,
-        None => false,
-    }
+    mark_at(naming, column, x).is_some_and(|(t, _)| t == table)
 }
 
 /// Does one of the statements mark the table at the column?
 fn is_marked(naming: &Naming, column: Column, list: &[Statement], table: u8) -> bool
     ensures { result ≡ bears (marks_at (setting_of naming.now) list.now column) table }
 {
-    for x in list {
-        if marks(naming, column, *x, table) {
-            return true;
-        }
-    }
-    false
+    list.iter().any(|x| marks(naming, column, *x, table))
 }
 
 impl<'a> Goal for Marked<'a> {

@@ -14,36 +14,43 @@ use search::search::search;
 use standing::Standing;
 use statement::{Reading, Slot, Table};
 
-/// The fewest links from the table to a marked one.
-fn distance_at(standing: &Standing, column: Column, table: u8) -> Option<u8>
-    ensures { table < standing.now.tables → result ≡ distance (setting_in standing.now) (list_in standing.now) column table }
-{
-    let links = gather(standing, column);
-    let marked = Marked {
-        naming: standing.naming(),
-        column,
-        list: standing.statements(),
-    };
-    search::<Gathered, Marked<'_>, Reached>(&links, &marked, table)
+/// One of the tables, asked at a column.
+#[derive(Clone, Copy)]
+struct Asked<'a> {
+    standing: &'a Standing,
+    column: Column,
+    table: u8,
+    ghost below: { table < standing.now.tables },
 }
 
-/// The reading that is known of the table at the column.
-fn known_at(standing: &Standing, column: Column, table: u8) -> Option<u8>
-    ensures { table < standing.now.tables → result ≡ known (setting_in standing.now) (list_in standing.now) column table }
-{
-    sight_in(standing, column).reading(table)
-}
+impl Asked<'_> {
+    /// The fewest links from the table to a marked one.
+    fn distance(&self) -> Option<u8>
+        ensures { result ≡ distance (setting_in self.now.standing.now) (list_in self.now.standing.now) self.now.column self.now.table }
+    {
+        let links = gather(self.standing, self.column);
+        let marked = Marked {
+            naming: self.standing.naming(),
+            column: self.column,
+            list: self.standing.statements(),
+        };
+        search::<Gathered, Marked<'_>, Reached>(&links, &marked, self.table)
+    }
 
-/// The reading that is known of the table at the column, and the fewest links to a table that is marked with it.
-fn told_at(standing: &Standing, column: Column, table: u8) -> Option<(Reading, u8)>
-    ensures { table < standing.now.tables → result ≡ reading_and_distance (known (setting_in standing.now) (list_in standing.now) column table) (distance (setting_in standing.now) (list_in standing.now) column table) }
-{
-    match known_at(standing, column, table) {
-        None => None,
-        Some(reading) => match distance_at(standing, column, table) {
-            None => None,
-            Some(distance) => Some((Reading(reading), distance)),
-        },
+    /// The reading that is known of the table.
+    fn known(&self) -> Option<u8>
+        ensures { result ≡ known (setting_in self.now.standing.now) (list_in self.now.standing.now) self.now.column self.now.table }
+    {
+        sight_in(self.standing, self.column).reading(self.table)
+    }
+
+    /// The reading that is known of the table, and the fewest links to a table that is marked with it.
+    fn told(&self) -> Option<(Reading, u8)>
+        ensures { result ≡ reading_and_distance (known (setting_in self.now.standing.now) (list_in self.now.standing.now) self.now.column self.now.table) (distance (setting_in self.now.standing.now) (list_in self.now.standing.now) self.now.column self.now.table) }
+    {
+        let reading = self.known()?;
+        let distance = self.distance()?;
+        Some((Reading(reading), distance))
     }
 }
 
@@ -55,8 +62,11 @@ pub fn told(standing: &Standing, a: Table, i: Slot) -> Option<(Reading, u8)>
     if a.0 >= standing.tables() {
         return None;
     }
-    match lowest_slot(standing, i.0) {
-        None => None,
-        Some(c) => told_at(standing, Column::At(Slot(c)), a.0),
-    }
+    let c = lowest_slot(standing, i.0)?;
+    let asked = Asked {
+        standing,
+        column: Column::At(Slot(c)),
+        table: a.0,
+    };
+    asked.told()
 }

@@ -5,6 +5,7 @@ ghost use Rattle.column.specs.Naming.{setting_of};
 ghost use Rattle.links.specs.Lists.{all_of};
 ghost use Rattle.meaning.specs.Fillings.{below, is_within, reading_of, tables_of};
 
+use arrangement::Arrangement;
 use column::{Naming, slot_of};
 use statement::Statement;
 
@@ -22,10 +23,7 @@ pub fn reading_of(x: Statement) -> Option<u8>
 pub fn is_below(count: u8, name: Option<u8>) -> bool
     ensures { result ≡ below count name }
 {
-    match name {
-        None => true,
-        Some(i) => i < count,
-    }
+    name.is_none_or(|i| i < count)
 }
 
 /// Are the tables that the statement names below the count?
@@ -44,6 +42,6 @@ pub fn is_within(tables: u8, naming: &Naming, x: Statement) -> bool
     ensures { result ≡ is_within tables (setting_of naming.now) x }
 {
     are_tables_below(tables, x)
-        && is_below(naming.slots.count, slot_of(x))
-        && is_below(naming.readings.count, reading_of(x))
+        && is_below(naming.slots.count(), slot_of(x))
+        && is_below(naming.readings.count(), reading_of(x))
 }

@@ -1,21 +1,16 @@
-use Rattle.std.proofs.Common.{sym, ◌∙◌}
+use Rattle.std.proofs.Common.{◌≡◌, [], ◌∷◌, ◌∙◌, rules, tests}
+use Rattle.std.proofs.lemmas.Iterator.Search.{any_from_yields_List}
+use Rattle.std.proofs.lemmas.Iterator.{YieldsList-from_slice}
+use Rattle.links.specs.Lists.{present}
 use Rattle.column.specs.Naming.{setting_of}
-use Rattle.questions.proofs.Marking.{bears_end, bears_here, bears_later}
+use Rattle.meaning.specs.Answers.{bears}
+use Rattle.meaning.specs.Columns.{mark_at}
+use Rattle.questions.proofs.Marking.{bears_any}
 use Rattle.questions.proofs.marked.is_marked.Goals as goal
-
-pub returns-then-marks : goal.returns-then-marks
-returns-then-marks c =
-    bears_here (setting_of c.args.naming.now) c.args.column c.args.table c.args.list.now c.loop-x.x-index _
-    c.loop-x-test.true c.if-marks.ensures
-    ∙ sym c.loop-x.invariant
-
-pub loop-x-preserved : goal.loop-x-preserved
-loop-x-preserved c =
-    c.loop-x.invariant
-    ∙ bears_later (setting_of c.args.naming.now) c.args.column c.args.table c.args.list.now c.loop-x.x-index _
-    c.loop-x-test.true c.if-marks.ensures
 
 pub returns : goal.returns
 returns c =
-    sym (c.loop-x.invariant
-    ∙ bears_end (setting_of c.args.naming.now) c.args.column c.args.table c.args.list.now c.loop-x.x-index c.loop-x-test.false)
+    let w = setting_of c.args.naming.now in
+    let is = any_from_yields_List (λ x. bears (present (mark_at w c.args.column x ∷ [])) c.args.table) _ _ c.any.result c.any.ensures.ran
+        (YieldsList-from_slice c.args.list.now cc) (λ x b q k. search (rules, tests)) in
+    is ∙ bears_any w c.args.column c.args.table c.args.list.now

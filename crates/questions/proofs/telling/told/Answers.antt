@@ -4,9 +4,9 @@ use Rattle.questions.proofs.Distances.{told_is}
 use Rattle.questions.proofs.Names.{lowest_name}
 use Rattle.questions.proofs.telling.told.Goals as goal
 
-pub returns-in-Some : goal.returns-in-Some
-returns-in-Some c =
+pub returns : goal.returns
+returns c =
     let s = c.args.standing.now in
     let low : c.args.a.0 < s.tables = omega (arith, c.if-a-tables.false, c.tables.ensures) in
-    let name = lowest_name (setting_in s).slots c.args.i.0 c.in-Some.c c.in-Some.ensures in
-    c.told_at.ensures low ∙ told_is s c.args.a.0 c.args.i.0 c.in-Some.c low name.0 name.1
+    let name = lowest_name (setting_in s).slots c.args.i.0 c.in_ok-c.c c.in_ok-c.ensures in
+    c.told.ensures ∙ told_is s c.args.a.0 c.args.i.0 c.in_ok-c.c low name.0 name.1

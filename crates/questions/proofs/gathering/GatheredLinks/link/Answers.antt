@@ -1,8 +1,8 @@
-use Rattle.questions.specs.Linking.{link_here, link_past}
+use Rattle.std.proofs.Common.{ap, ◌∙◌}
+use Rattle.std.specs.Option.{option_flatten}
+use Rattle.bounded.specs.Items.{items_of}
+use Rattle.questions.specs.Linking.{link_here}
 use Rattle.questions.proofs.gathering.GatheredLinks.link.Goals as goal
 
-pub returns-then-k-self : goal.returns-then-k-self
-returns-then-k-self c = link_here c.args.self.now c.args.k c.if-k-self.true
-
-pub returns-else-k-self : goal.returns-else-k-self
-returns-else-k-self c = link_past c.args.self.now c.args.k c.if-k-self.false
+pub returns : goal.returns
+returns c = c.flatten.ensures ∙ ap option_flatten c.get.ensures ∙ link_here (items_of c.args.self.now.links) c.args.k
