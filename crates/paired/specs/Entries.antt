@@ -4,7 +4,8 @@ use Rattle.std.proofs.Common.{sym, ap, ◌∙◌, arith}
 use Rattle.std.proofs.ByRecursion.{All-from_get_or, All-map}
 use Rattle.std.proofs.lemmas.List.{get_or-map, get_or_past, get_or-take, length-map}
 use Rattle.std.specs.List.{AllByRecursion}
-use Rattle.search.specs.Entries.{Inside, present}
+use Rattle.links.specs.Lists.{present}
+use Rattle.search.specs.Entries.{Inside}
 use Rattle.paired.specs.declared.store.Paired.{Paired}
 use Rattle.paired.specs.Held.{entries_of, pairings_of}
 use Rattle.paired.specs.Asked.{held_length}
