@@ -45,6 +45,7 @@ impl<'a, E: Entry> Wave<'a, E> {
     }
 
     /// Has a name wait that is not reached yet. One that was reached before is as near as can be, and is left alone.
+    #[tactic(auto, using(crate::proofs::Tables::unknowns_set))]
     pub(crate) fn note(&mut self, name: u8, distance: u8)
         requires { name < 128 }
         ensures does { walk_of self.new ≡ noted E.made name distance (walk_of self.old) }
@@ -62,6 +63,7 @@ impl<'a, E: Entry> Wave<'a, E> {
         ensures does { walk_of self.new ≡ visited E.made name distance (L.entries links.now) (walk_of self.old) }
         ensures keeps { turns self.new ≡ turns self.old }
     {
+        // Entries are asked by place, so that a table with gaps need not be copied into a slice.
         for k in 0..links.len() {
             if let Some(other) = other_end(links.link(k), name) {
                 self.note(other, distance);
