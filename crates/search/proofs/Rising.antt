@@ -1,5 +1,5 @@
 -- Names that wait in the order of their distances.
-use Rattle.std.proofs.Common.{◌≡◌, ℕ, ◌≤◌, List, [], ◌∷◌, ◌++◌, Some, Option, subst, inl, inr, arith}
+use Rattle.std.proofs.Common.{◌≡◌, ℕ, ◌≤◌, List, [], ◌∷◌, ◌++◌, Some, Option, inl, inr, arith}
 use Rattle.links.specs.Lists.{Member}
 use Rattle.search.specs.Tables.{at}
 use Rattle.search.proofs.Tables.{More}
@@ -9,18 +9,15 @@ abbrev pub Rising : List (Option ℕ) → ℕ → ℕ → List ℕ → Type 0
 Rising D low high [] = low ≤ high
 Rising D low high (y ∷ ys) = (d : ℕ) × (at D y ≡ Some d) × (low ≤ d) × Rising D d high ys
 
-pub rising_ends : (D : List (Option ℕ)) (low high : ℕ) (ys : List ℕ) → Rising D low high ys → low ≤ high
+rising_ends : (D : List (Option ℕ)) (low high : ℕ) (ys : List ℕ) → Rising D low high ys → low ≤ high
 rising_ends D low high [] r = r
-rising_ends D low high (y ∷ ys) (d, is, le, r) = omega (arith, rising_ends D d high ys r)
+rising_ends D low high (y ∷ ys) r = omega (arith, r.2, rising_ends D r.0 high ys r.3)
 
-pub rising_member : (D : List (Option ℕ)) (low high : ℕ) (ys : List ℕ) (y : ℕ) → Rising D low high ys → Member y ys
-    → (d : ℕ) × (at D y ≡ Some d) × (low ≤ d) × (d ≤ high)
-rising_member D low high [] y r m = elim m [ ]
-rising_member D low high (z ∷ zs) y (d, is, le, r) (inl e) =
-    subst (λ v. (k : ℕ) × (at D v ≡ Some k) × (low ≤ k) × (k ≤ high)) e (d, is, le, rising_ends D d high zs r)
-rising_member D low high (z ∷ zs) y (d, is, le, r) (inr m) =
-    let k = rising_member D d high zs y r m in
-    (k.0, k.1, omega arith, k.3)
+pub rising_member : (D : List (Option ℕ)) (low high : ℕ) (ys : List ℕ) (y d : ℕ) → Rising D low high ys → Member y ys → at D y ≡ Some d
+    → (low ≤ d) × (d ≤ high)
+rising_member D low high [] y d r m is = absurd m
+rising_member D low high (z ∷ zs) y d r (inl e) is = grind (arith, rising_ends D r.0 high zs r.3)
+rising_member D low high (z ∷ zs) y d r (inr m) is = grind (arith, rising_member D r.0 high zs y d r.3 m is)
 
 pub rising_wider : (D : List (Option ℕ)) (low high top : ℕ) (ys : List ℕ) → high ≤ top → Rising D low high ys → Rising D low top ys
 rising_wider D low high top [] wider r = omega arith

@@ -1,8 +1,8 @@
 -- A table of distances in which one more name is reached.
-use Rattle.std.proofs.Common.{◌≡◌, ℕ, zero, suc, ◌+◌, ◌<◌, ◌≤◌, true, false, ◌⊎◌, List, [], ◌∷◌, length, set, Some, None, Option, is_some, sym, refl, ap, ◌∙◌, inl, inr, arith}
-use Rattle.std.proofs.lemmas.List.{get_or_past, get_or-replicate, get_or-set_same, get_or-set_other}
-use Rattle.std.proofs.lemmas.Bool.{cases_eq, cases_lt}
-use Rattle.std.proofs.lemmas.Option.{none-some, same_Some}
+use Rattle.std.proofs.Common.{◌≡◌, ℕ, zero, suc, ◌+◌, ◌<◌, ◌≤◌, true, false, ◌⊎◌, List, [], ◌∷◌, length, set, Some, None, Option, is_some, refl, inl, inr, arith}
+use Rattle.std.proofs.lemmas.Grind.{common_steps}
+use Rattle.std.proofs.lemmas.List.{get_or_past, get_or-replicate}
+use Rattle.std.proofs.lemmas.Bool.{cases_lt}
 use Rattle.search.specs.Tables.{at, blank, unknowns}
 
 -- N has what D has, and maybe more
@@ -15,10 +15,6 @@ Near D y d = (n : ℕ) × (at D y ≡ Some n) × (n ≤ d)
 
 pub near_more : (D N : List (Option ℕ)) (y d : ℕ) → More D N → Near D y d → Near N y d
 near_more D N y d more (n, is, le) = (n, more y n is, le)
-
--- a name has one distance
-pub one_distance : (D : List (Option ℕ)) (y m n : ℕ) → at D y ≡ Some m → at D y ≡ Some n → m ≡ n
-one_distance D y m n e f = same_Some m n (sym e ∙ f)
 
 pub reached : (o : Option ℕ) → is_some o ≡ true → (d : ℕ) × (o ≡ Some d)
 reached None t = cc
@@ -36,26 +32,21 @@ pub record Fresh (D : List (Option ℕ)) (y : ℕ) : Type 0 where
 
 module _ (D : List (Option ℕ)) (y v : ℕ) (fresh : Fresh D y) where
   pub set_same : at (set D y (Some v)) y ≡ Some v
-  set_same = get_or-set_same D y (Some v) None (omega arith)
+  set_same = grind (arith, common_steps)
 
   pub set_more : More D (set D y (Some v))
-  set_more z d is =
-      get_or-set_other D y z (Some v) None (λ e. none-some d (sym fresh.new ∙ sym (ap (at D) e) ∙ is)) ∙ is
+  set_more z d is = grind (arith, common_steps)
 
   pub set_known : (z d : ℕ) → at (set D y (Some v)) z ≡ Some d → ((z ≡ y) × (d ≡ v)) ⊎ (at D z ≡ Some d)
-  set_known z d is =
-      elim (cases_eq z y) [
-        | inl e ↦ inl (e, same_Some d v (sym is ∙ ap (at (set D y (Some v))) e ∙ set_same))
-        | inr other ↦ inr (sym (get_or-set_other D y z (Some v) None other) ∙ is)
-      ]
+  set_known z d is = grind (arith, common_steps)
 
 -- one name reached is one less that is not
 pub unknowns_set : (D : List (Option ℕ)) (y v : ℕ) → y < length D → at D y ≡ None → unknowns (set D y (Some v)) + 1 ≡ unknowns D
 unknowns_set [] y v lt new = absurd (omega arith)
 unknowns_set (None ∷ D) zero v lt new = omega arith
 unknowns_set (Some d ∷ D) zero v lt new = cc
-unknowns_set (None ∷ D) (suc y) v lt new = omega (arith, unknowns_set D y v (omega arith) new)
-unknowns_set (Some d ∷ D) (suc y) v lt new = unknowns_set D y v (omega arith) new
+unknowns_set (None ∷ D) (suc y) v lt new = grind (arith, unknowns_set D y v)
+unknowns_set (Some d ∷ D) (suc y) v lt new = grind (arith, unknowns_set D y v)
 
 pub at_blank : (z : ℕ) → at blank z ≡ None
 at_blank z =

@@ -1,17 +1,17 @@
 -- What the search keeps true from turn to turn, and why its answer is the nearest.
-use Rattle.std.proofs.Common.{◌≡◌, ℕ, ◌+◌, ◌<◌, ◌≤◌, Bool, true, false, ltb, ◌⊎◌, List, [], ◌∷◌, map, set, Some, None, Option, is_some, sym, refl, ap, ◌∙◌, subst, inl, inr, arith, length-set}
+use Rattle.std.proofs.Common.{◌≡◌, ℕ, ◌+◌, ◌<◌, ◌≤◌, Bool, true, false, ltb, ◌⊎◌, List, [], ◌∷◌, map, set, Some, None, Option, sym, refl, ap, ◌∙◌, subst, inl, inr, arith, length-set}
 use Rattle.std.specs.List.{AllByRecursion}
-use Rattle.std.proofs.lemmas.Bool.{both_ways, cases_lt, cond-true, lt-ltb}
-use Rattle.std.proofs.lemmas.Option.{none-some}
-use Rattle.links.specs.Chains.{Chain, Linked, Nearest, fewest, next, none}
+use Rattle.std.proofs.lemmas.List.{get_or-set_same}
+use Rattle.std.proofs.lemmas.Bool.{cond-true, lt-ltb}
+use Rattle.links.specs.Chains.{Chain, Nearest, fewest, next, none}
 use Rattle.links.specs.Lists.{Member, present}
 use Rattle.links.proofs.Fewest.{fewest_is}
 use Rattle.search.specs.Entries.{Inside, searched}
 use Rattle.search.specs.Tables.{at, blank}
 use Rattle.search.specs.Walks.{Walk, noted, visited, walk}
 use Rattle.search.proofs.Rising.{Rising, rising_member, rising_wider}
-use Rattle.search.proofs.Tables.{Fresh, Near, at_blank, one_distance, set_known, set_same}
-use Rattle.search.proofs.Visits.{Done, Honest, Mid, Table, all_near, honest_made, noted_new, opens, under_visited}
+use Rattle.search.proofs.Tables.{Fresh, Near, at_blank, set_known}
+use Rattle.search.proofs.Visits.{Done, Honest, Mid, Table, all_near, honest_made, opens, under_visited}
 
 -- what waits has distances that rise by at most one from the first, and nothing is reached farther
 abbrev pub Stepped : List (Option ℕ) → List ℕ → Type 0
@@ -40,28 +40,16 @@ module _ (links : List (ℕ × ℕ)) (goal : ℕ → Bool) (from : ℕ) where
   stepped_from x n D [] m = tt
   stepped_from x n D (y ∷ ys) m =
       let k = m.rising.0 in
-      let low : n ≤ k = m.rising.2 in
-      (k, m.rising.1, rising_wider D k (n + 1) (k + 1) ys (omega arith) m.rising.3, λ z d is. omega (arith, m.near z d is))
+      (k, m.rising.1, grind (arith, rising_wider D k (n + 1) (k + 1) ys, m.rising), λ z d is. grind (arith, m.near z d is, m.rising))
 
   -- all names next to it are noted
-  mid_top : (left x n : ℕ) (D : List (Option ℕ)) (ys : List ℕ) → n + 1 + left ≤ 128 → goal x ≡ false → ((z : ℕ) → Linked links x z → Near D z (n + 1))
-      → Mid links goal from x n D ys → Top links goal from left D ys
-  mid_top left x n D ys few g near m =
-      record {
-        table = m.table;
-        stepped = stepped_from x n D ys m;
-        late = λ y d q is.
-            let r = rising_member D n (n + 1) ys y m.rising q in
-            omega (arith, r.3, one_distance D y d r.0 is r.1);
-        fate = λ y d is.
-            elim (m.fate y d is) [
-              | inl (inl e) ↦
-                  let same : n ≡ d = one_distance D y n d (ap (at D) (sym e) ∙ m.mine) is in
-                  inr (subst (λ z. Done links goal D z d) e (subst (Done links goal D x) same (g, near)))
-              | inl (inr q) ↦ inl q
-              | inr o ↦ inr o
-            ];
-      }
+  mid_top : (left x n : ℕ) (D : List (Option ℕ)) (ys : List ℕ) → n + 1 + left ≤ 128 → Done links goal D x n → Mid links goal from x n D ys → Top links goal from left D ys
+  mid_top left x n D ys few own m = record {
+    table = m.table;
+    stepped = stepped_from x n D ys m;
+    late = λ y d q is. omega (arith, rising_member D n (n + 1) ys y d m.rising q is);
+    fate = λ y d is. grind (arith, m.fate y d is, m.mine, own);
+  }
 
   -- x is the first that waits: all that is nearer is done, so no chain leads to a goal nearer than x
   module _ (left x : ℕ) (D : List (Option ℕ)) (ys : List ℕ) (t : Top links goal from left D (x ∷ ys)) where
@@ -69,48 +57,36 @@ module _ (links : List (ℕ × ℕ)) (goal : ℕ → Bool) (from : ℕ) where
     n = t.stepped.0
 
     waits_later : (c d : ℕ) → at D c ≡ Some d → Member c (x ∷ ys) → n ≤ d
-    waits_later c d is (inl e) = omega (arith, one_distance D c n d (ap (at D) (sym e) ∙ t.stepped.1) is)
-    waits_later c d is (inr m) =
-        let r = rising_member D n (n + 1) ys c t.stepped.2 m in
-        omega (arith, r.2, one_distance D c d r.0 is r.1)
+    waits_later c d is (inl e) = grind arith
+    waits_later c d is (inr m) = (rising_member D n (n + 1) ys c d t.stepped.2 m is).0
 
     settled : (c d : ℕ) → at D c ≡ Some d → d < n → Done links goal D c d
-    settled c d is lt = elim (t.fate c d is) [ inl m ↦ absurd (omega (arith, waits_later c d is m)) | inr o ↦ o ]
+    settled c d is lt = grind (arith, t.fate c d is, waits_later c d is)
 
     chain_near : (c k : ℕ) → Chain links from c k → k ≤ n → Near D c k
-    chain_near c k none le = (0, t.table.start, omega arith)
+    chain_near c k none le = grind (arith, t.table.start)
     chain_near c k (next {b = b} {n = m} ch j) le =
         let a = chain_near b m ch (omega arith) in
-        let r = (settled b a.0 a.1 (omega (arith, a.2))).1 c j in
-        (r.0, r.1, omega (arith, r.2, a.2))
+        grind (arith, a, settled b a.0)
 
     no_nearer : (c k : ℕ) → Chain links from c k → k < n → goal c ≡ false
     no_nearer c k ch lt =
         let a = chain_near c k ch (omega arith) in
-        (settled c a.0 a.1 (omega (arith, a.2))).0
+        grind (arith, a, settled c a.0)
 
     pub goal_found : goal x ≡ true → Nearest links goal from (Some n)
-    goal_found g = (
-      (x, g, t.table.sound x n t.stepped.1),
-      λ c k ch h. elim (cases_lt k n) [ inl lt ↦ absurd (both_ways (goal c) (no_nearer c k ch lt) h) | inr ge ↦ ge ],
-    )
+    goal_found g = ((x, g, t.table.sound x n t.stepped.1), λ c k ch h. grind (arith, no_nearer c k ch))
 
   -- nothing waits: all that a chain leads to is reached, and done
   module _ (left : ℕ) (D : List (Option ℕ)) (t : Top links goal from left D []) where
-    done : (c d : ℕ) → at D c ≡ Some d → Done links goal D c d
-    done c d is = elim (t.fate c d is) [ inl m ↦ absurd m | inr o ↦ o ]
-
-    reached_all : (c k : ℕ) → Chain links from c k → (d : ℕ) × (at D c ≡ Some d)
-    reached_all c k none = (0, t.table.start)
-    reached_all c k (next {b = b} {n = m} ch j) =
-        let a = reached_all b m ch in
-        let r = (done b a.0 a.1).1 c j in
-        (r.0, r.1)
+    all_done : (c k : ℕ) → Chain links from c k → (d : ℕ) × Done links goal D c d
+    all_done c k none = (0, grind (arith, t.fate from 0 t.table.start))
+    all_done c k (next {b = b} {n = m} ch j) =
+        let r = (all_done b m ch).1.1 c j in
+        (r.0, grind (arith, t.fate c r.0 r.1))
 
     pub goal_none : Nearest links goal from None
-    goal_none c k ch =
-        let a = reached_all c k ch in
-        (done c a.0 a.1).0
+    goal_none c k ch = (all_done c k ch).1.0
 
 -- from a name, what is nearest is what the search answers
 pub nearest_searched : (count : ℕ) (links : List (ℕ × ℕ)) (goal : ℕ → Bool) (from : ℕ) (r : Option ℕ)
@@ -123,29 +99,26 @@ module _ (links : List (ℕ × ℕ)) (goal : ℕ → Bool) (from : ℕ) (below :
   abbrev started : List (Option ℕ)
   started = set blank from (Some 0)
 
-  fresh : Fresh blank from
-  fresh = record { size = refl; below = below; new = at_blank from }
-
-  start : at started from ≡ Some 0
-  start = set_same blank from 0 fresh
-
   -- each name that is reached is the first
   start_known : (z d : ℕ) → at started z ≡ Some d → (z ≡ from) × (d ≡ 0)
-  start_known z d is = elim (set_known blank from 0 fresh z d is) [ inl r ↦ r | inr e ↦ absurd (none-some d (sym (at_blank z) ∙ e)) ]
+  start_known z d is =
+      let fresh : Fresh blank from = record { size = refl; below = below; new = at_blank from } in
+      grind (arith, set_known blank from 0 fresh z d is, at_blank z)
 
   top_start : Top links goal from 128 started (from ∷ [])
-  top_start = record {
-    table = record {
-      size = length-set blank from (Some 0);
-      start = start;
-      sound = λ z d is.
-          let r = start_known z d is in
-          subst (Chain links from z) (sym r.1) (subst (λ v. Chain links from v 0) (sym r.0) none);
-    };
-    stepped = (0, start, omega arith, λ z d is. omega (arith, (start_known z d is).1));
-    late = λ z d m is. omega (arith, (start_known z d is).1);
-    fate = λ z d is. inl (inl (sym (start_known z d is).0));
-  }
+  top_start =
+      let start : at started from ≡ Some 0 = get_or-set_same blank from (Some 0) None below in
+      let here : Chain links from from 0 = none in
+      record {
+        table = record {
+          size = length-set blank from (Some 0);
+          start = start;
+          sound = λ z d is. grind (arith, here, start_known z d is);
+        };
+        stepped = (0, start, omega arith, λ z d is. omega (arith, start_known z d is));
+        late = λ z d m is. omega (arith, start_known z d is);
+        fate = λ z d is. inl (inl (sym (start_known z d is).0));
+      }
 
 -- between two turns, of entries of any kind
 pub record Going {E : Type 0} (name_of : E → ℕ) (distance_of : E → Option ℕ → Option ℕ) (links : List (ℕ × ℕ)) (goal : ℕ → Bool) (from left : ℕ) (w : Walk E) : Type 0 where
@@ -157,14 +130,13 @@ module _ {E : Type 0} (made : ℕ → ℕ → E) (name_of : E → ℕ) (distance
   pub going_start : (links : List (ℕ × ℕ)) (goal : ℕ → Bool) (from left : ℕ) (v w : Walk E) → from < 128
       → v ≡ walk blank [] → w ≡ noted made from 0 v → left ≡ 128 → Going name_of distance_of links goal from left w
   going_start links goal from left v w below blank-is note-is all =
-      let first : walk (set blank from (Some 0)) (made from 0 ∷ []) ≡ noted made from 0 (walk blank []) =
-      noted_new made blank [] from 0 (made from 0 ∷ []) (ap is_some (at_blank from)) refl in
-      let same : w ≡ walk (set blank from (Some 0)) (made from 0 ∷ []) = note-is ∙ ap (noted made from 0) blank-is ∙ sym first in
+      let N = set blank from (Some 0) in
+      let first : noted made from 0 (walk blank []) ≡ walk N (made from 0 ∷ []) = grind (arith, at_blank from) in
+      let same : w ≡ walk N (made from 0 ∷ []) = cc (note-is, blank-is, first) in
       let start = top_start links goal from below in
       subst (Going name_of distance_of links goal from left) (sym same) (record {
-        top = subst (λ k. Top links goal from k (set blank from (Some 0)) (name_of (made from 0) ∷ [])) (sym all)
-            (subst (λ y. Top links goal from 128 (set blank from (Some 0)) (y ∷ [])) (sym (named from 0)) start);
-        honest = (honest_made made name_of distance_of named measured (set blank from (Some 0)) from 0 start.table.start, tt);
+        top = grind (arith, start, named from 0);
+        honest = (honest_made made name_of distance_of named measured N from 0 start.table.start, tt);
       })
 
   -- a turn of the search: e is taken of what waits, W, and V is left
@@ -185,28 +157,25 @@ module _ {E : Type 0} (made : ℕ → ℕ → E) (name_of : E → ℕ) (distance
       turn_is = sym going_e.honest.0 ∙ said
 
       turn_same : d ≡ least
-      turn_same = one_distance D y d least turn_is going_e.top.stepped.1
+      turn_same = grind (arith, turn_is, going_e.top.stepped.1)
 
       pub turn_short : d + left ≤ 128
       turn_short = going_e.top.late y d (inl refl) turn_is
 
       pub turn_found : goal x ≡ true → Nearest (present es) goal from (Some d)
-      turn_found g =
-          subst (λ k. Nearest (present es) goal from (Some k)) (sym turn_same)
-          (goal_found (present es) goal from left y D (map name_of V) going_e.top (ap goal (sym name-is) ∙ g))
+      turn_found g = rw turn_same (goal_found (present es) goal from left y D (map name_of V) going_e.top (ap goal (sym name-is) ∙ g))
 
       pub turn_next : (less : ℕ) (v : Walk E) → left ≡ less + 1 → AllByRecursion (Inside 128) es → goal x ≡ false
           → v ≡ visited made x (d + 1) es (walk D V) → Going name_of distance_of (present es) goal from less v
       turn_next less v fewer inside g visit-is =
           let w : Walk E = visited made y (least + 1) es (walk D V) in
-          let same : v ≡ w =
-          visit-is ∙ ap (λ z. visited made z (d + 1) es (walk D V)) name-is ∙ ap (λ k. visited made y (k + 1) es (walk D V)) turn_same in
+          let same : v ≡ w = cc (visit-is, name-is, turn_same) in
           let mid = top_mid (present es) goal from left y D (map name_of V) going_e.top in
           let r = under_visited made name_of distance_of named measured (present es) goal from y least es (walk D V) (mid, going_e.honest.1) (opens es y inside) in
           let after = r.0.0 in
           let self : Near w.known y (least + 1) = (least, after.0.mine, omega arith) in
           subst (Going name_of distance_of (present es) goal from less) (sym same) (record {
-            top = mid_top (present es) goal from less y least w.known (map name_of w.wait) (omega (arith, turn_short, turn_same)) (ap goal (sym name-is) ∙ g)
-                (all_near w.known y (least + 1) self es r.1) after.0;
+            top = mid_top (present es) goal from less y least w.known (map name_of w.wait) (omega (arith, turn_short, turn_same))
+                (ap goal (sym name-is) ∙ g, all_near w.known y (least + 1) self es r.1) after.0;
             honest = after.1;
           })
