@@ -1,5 +1,5 @@
 -- What a push and a pop do to the slots that wait.
-use Rattle.std.proofs.Common.{◌≡◌, ℕ, zero, suc, ◌+◌, ◌-◌, ◌<◌, List, [], ◌∷◌, ◌++◌, length, get_or, take, drop, set, Some, None, sym, refl, ap, ◌∙◌, arith, length-drop}
+use Rattle.std.proofs.Common.{◌≡◌, ℕ, zero, suc, ◌+◌, ◌-◌, ◌<◌, List, [], ◌∷◌, ◌++◌, length, get_or, take, drop, set, Some, sym, ap, ◌∙◌, arith, length-drop}
 use Rattle.std.proofs.lemmas.List.{drop-set-add, take_more_set, drop_more}
 use Rattle.std.proofs.lemmas.Bool.{cond-true, lt-ltb}
 use Rattle.search.specs.Lines.{first_of, pushed, rest_of}
@@ -25,7 +25,3 @@ module _ {E : Type 0} (xs : List E) (head count : ℕ) where
 pub popped_some : {E : Type 0} (W V : List E) (e : E) → Some e ≡ first_of W → V ≡ rest_of W → W ≡ e ∷ V
 popped_some [] V e f r = cc
 popped_some (x ∷ xs) V e f r = cc
-
-pub popped_none : {E : Type 0} (W : List E) → None ≡ first_of W → W ≡ []
-popped_none [] f = refl
-popped_none (x ∷ xs) f = cc

@@ -7,6 +7,7 @@ use Rattle.links.specs.Chains.{Chain, Nearest, fewest, next, none}
 use Rattle.links.specs.Lists.{Member, present}
 use Rattle.links.proofs.Fewest.{fewest_is}
 use Rattle.search.specs.Entries.{Inside, searched}
+use Rattle.search.specs.Lines.{first_of}
 use Rattle.search.specs.Tables.{at, blank}
 use Rattle.search.specs.Walks.{Walk, noted, visited, walk}
 use Rattle.search.proofs.Rising.{Rising, rising_member, rising_wider}
@@ -85,7 +86,7 @@ module _ (links : List (ℕ × ℕ)) (goal : ℕ → Bool) (from : ℕ) where
         let r = (all_done b m ch).1.1 c j in
         (r.0, grind (arith, t.fate c r.0 r.1))
 
-    pub goal_none : Nearest links goal from None
+    goal_none : Nearest links goal from None
     goal_none c k ch = (all_done c k ch).1.0
 
 -- from a name, what is nearest is what the search answers
@@ -179,3 +180,9 @@ module _ {E : Type 0} (made : ℕ → ℕ → E) (name_of : E → ℕ) (distance
                 (ap goal (sym name-is) ∙ g, all_near w.known y (least + 1) self es r.1) after.0;
             honest = after.1;
           })
+
+-- nothing waits
+pub turn_none : {E : Type 0} (name_of : E → ℕ) (distance_of : E → Option ℕ → Option ℕ) (links : List (ℕ × ℕ)) (goal : ℕ → Bool) (from left : ℕ) (D : List (Option ℕ)) (W : List E)
+    → Going name_of distance_of links goal from left (walk D W) → None ≡ first_of W → Nearest links goal from None
+turn_none name_of distance_of links goal from left D [] going first = goal_none links goal from left D going.top
+turn_none name_of distance_of links goal from left D (e ∷ es) going first = cc

@@ -1,10 +1,9 @@
-use Rattle.std.proofs.Common.{◌+◌, ◌≤◌, length, Some, None, sym, ap, ◌∙◌, subst, arith, rules}
+use Rattle.std.proofs.Common.{◌+◌, ◌≤◌, length, Some, None, sym, ap, ◌∙◌, arith, rules}
 use Rattle.links.specs.Lists.{present}
 use Rattle.search.specs.Queues.{waiting}
-use Rattle.search.specs.Walks.{walk}
 use Rattle.search.specs.Waves.{turns, walk_of}
-use Rattle.search.proofs.Queues.{popped_none, popped_some}
-use Rattle.search.proofs.Turns.{Going, goal_none, going_start, nearest_searched, turn_found, turn_next, turn_short}
+use Rattle.search.proofs.Queues.{popped_some}
+use Rattle.search.proofs.Turns.{going_start, nearest_searched, turn_found, turn_next, turn_none, turn_short}
 use Rattle.search.proofs.Visits.{inside_wider}
 use Rattle.search.proofs.search.search.Goals as goal
 
@@ -60,13 +59,12 @@ loop-entry-preserved g c =
 
 pub returns : goal.returns
 returns g c =
+    let entry = g.E.Entry in
     let links = c.args.links.now in
     let es = g.L.Links.entries links in
     let goal = g.G.Goal.test c.args.goal.now in
     let w = c.loop-entry.wave in
-    let empty = popped_none (waiting w.queue) c.in_default.ensures.first in
-    let going = subst (λ W. Going g.E.Entry.name_of g.E.Entry.distance_of (present es) goal c.args.from (turns w) (walk w.known W)) empty c.loop-entry.invariant in
-    let near = goal_none (present es) goal c.args.from (turns w) w.known going.top in
+    let near = turn_none entry.name_of entry.distance_of (present es) goal c.args.from (turns w) w.known (waiting w.queue) c.loop-entry.invariant c.in_default.ensures.first in
     record {
       is = nearest_searched (g.L.Links.count links) (present es) goal c.args.from None (omega arith) near;
       nearest = λ _. near;
