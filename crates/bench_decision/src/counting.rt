@@ -24,16 +24,14 @@ fn halvings(count: usize, i: usize) -> usize {
 pub fn decisions(count: usize, found: &Citation) -> usize {
     let mut asked = 1usize;
     let mut from = 0usize;
-    for k in 0..found.count {
-        let Some(position) = found.positions.get(k as usize) else {
-            break;
-        };
-        let place = (*position as usize).saturating_sub(1);
+    for position in found.positions.iter().take(usize::from(found.count)) {
+        let next = usize::from(*position);
+        let place = next.saturating_sub(1);
         asked = asked.saturating_add(1).saturating_add(halvings(
             count.saturating_sub(from),
             place.saturating_sub(from),
         ));
-        from = *position as usize;
+        from = next;
     }
     if from < count {
         asked.saturating_add(1)

@@ -72,9 +72,5 @@ fn write(t: u8, slot: u8, reading: u8) -> Statement {
 
 /// The first statements of a kind.
 pub fn list(heap: Global, kind: Kind, count: usize) -> Result<Vec<Statement>, AllocError> {
-    let mut statements = Vec::new(heap);
-    for k in 0..count {
-        statements.push(kind.statement(k))?;
-    }
-    Ok(statements)
+    (0..count).map(|k| kind.statement(k)).collect(heap)
 }

@@ -18,8 +18,9 @@ use questions::told;
 use standing::{Room, Standing};
 use statement::{Slot, Statement, Table};
 use std::alloc::{AllocError, Global};
-use std::time::{Duration, Instant};
-use std::{env, io};
+use std::io;
+use std::time::Instant;
+use timing::{each, is_timed};
 
 /// 64 slots and 64 readings, each with one name.
 fn separate_names() -> Result<Naming, Refusal> {
@@ -42,16 +43,13 @@ fn print_answers(
     let offered = kind.offered();
     let label = kind.label();
     let count = xs.len();
-    let alone = match xs.first() {
-        Some(first) => fits(naming, *first, &[], xs),
-        None => true,
-    };
+    let alone = xs.first().is_none_or(|first| fits(naming, *first, &[], xs));
     let both = fits(naming, offered, &[], xs);
     let found = cited(naming, offered, xs);
     let cites = found.count;
     let asked = decisions(count, &found);
     let standing = stand(rt.alloc(), naming, xs)?;
-    let links = tell_often(&standing, 128);
+    let links = sum_of(128, |k| distance_told(&standing, k));
     println!(rt;
         "{label}, {count} statements: fit {alone}, with the offered one {both}, {cites} cited after {asked} decisions, told over {links} links"
     )?;
@@ -68,76 +66,48 @@ fn stand(heap: Global, naming: &Naming, xs: &[Statement]) -> Result<Standing, Al
     Ok(standing)
 }
 
-/// Asks so often what is told of a table at slot 7, each table in turn, and adds up the distances.
-fn tell_often(standing: &Standing, times: u32) -> u32 {
-    let mut sum = 0u32;
-    for k in 0..times {
-        let table = Table((k % 128) as u8);
-        if let Some((_, distance)) = told(standing, table, Slot(7)) {
-            sum = sum.wrapping_add(u32::from(distance));
-        }
-    }
-    sum
+/// Asks so often, and adds up the answers.
+fn sum_of<F: Fn(u32) -> u32>(times: u32, ask: F) -> u32
+    requires { F.IsAlwaysCallable ask }
+{
+    (0..times).fold(0u32, |sum, k| sum.wrapping_add(ask(k)))
 }
 
-/// Asks whether the list fits so often, and says how often it did.
-fn fit_often(naming: &Naming, offered: Statement, xs: &[Statement], times: u32) -> u32 {
-    let mut sum = 0u32;
-    for _ in 0..times {
-        sum = sum.wrapping_add(u32::from(fits(naming, offered, &[], xs)));
-    }
-    sum
+/// How far away is what is told at slot 7, of each table in turn.
+fn distance_told(standing: &Standing, k: u32) -> u32 {
+    let table = Table((k % 128) as u8);
+    told(standing, table, Slot(7)).map_or(0, |(_, distance)| u32::from(distance))
 }
 
-/// Asks for the citation so often, and adds up how many are cited.
-fn cite_often(naming: &Naming, offered: Statement, xs: &[Statement], times: u32) -> u32 {
-    let mut sum = 0u32;
-    for _ in 0..times {
-        sum = sum.wrapping_add(u32::from(cited(naming, offered, xs).count));
-    }
-    sum
-}
-
-/// Prints how long each call took, in microseconds.
-fn print_time(
+/// Asks so often, and prints how long each call took, in microseconds.
+fn print_time<F: Fn(u32) -> u32>(
     rt: &HostRuntime,
     label: &str,
     times: u32,
-    sum: u32,
-    spent: Duration,
-) -> io::Result<()> {
-    let nanoseconds = spent.as_nanos() / u128::from(times.max(1));
-    let whole = nanoseconds / 1000;
-    let rest = nanoseconds % 1000;
-    println!(rt; "- {label}: {whole}.{rest:03} us a call (sum {sum})")
+    ask: F,
+) -> io::Result<()>
+    requires { F.IsAlwaysCallable ask }
+{
+    let start = Instant::now(rt)?;
+    let sum = sum_of(times, ask);
+    let call = each(start.elapsed(rt)?.as_nanos(), times);
+    println!(rt; "- {label}: {call} us a call (sum {sum})")
 }
 
 fn print_times(rt: &HostRuntime, naming: &Naming, kind: Kind, xs: &[Statement]) -> io::Result<()> {
     let offered = kind.offered();
-    let start = Instant::now(rt)?;
-    let sum = match xs.first() {
-        Some(first) => fit_often(naming, *first, xs, 200),
-        None => 0,
-    };
-    print_time(rt, "fits", 200, sum, start.elapsed(rt)?)?;
-    let start = Instant::now(rt)?;
-    let sum = cite_often(naming, offered, xs, 50);
-    print_time(rt, "cited", 50, sum, start.elapsed(rt)?)?;
+    print_time(rt, "fits", 200, |_| {
+        xs.first()
+            .map_or(0, |first| u32::from(fits(naming, *first, &[], xs)))
+    })?;
+    print_time(
+        rt,
+        "cited",
+        50,
+        |_| u32::from(cited(naming, offered, xs).count),
+    )?;
     let standing = stand(rt.alloc(), naming, xs)?;
-    let start = Instant::now(rt)?;
-    let sum = tell_often(&standing, 256);
-    print_time(rt, "told", 256, sum, start.elapsed(rt)?)?;
-    Ok(())
-}
-
-/// Was the word `time` given?
-fn is_timed(rt: &HostRuntime) -> io::Result<bool> {
-    for word in env::args(rt)? {
-        if word.as_str() == "time" {
-            return Ok(true);
-        }
-    }
-    Ok(false)
+    print_time(rt, "told", 256, |k| distance_told(&standing, k))
 }
 
 fn main(rt: HostRuntime) -> anyhow::Result<()> {

@@ -5,7 +5,8 @@ use Rattle.std.proofs.ByRecursion.{All-from_get_or, All-map}
 use Rattle.std.proofs.lemmas.List.{length-map}
 use Rattle.std.specs.List.{AllByRecursion}
 use Rattle.bounded.specs.Items.{items_of}
-use Rattle.search.specs.Entries.{Inside, present}
+use Rattle.links.specs.Lists.{present}
+use Rattle.search.specs.Entries.{Inside}
 use Rattle.paired.specs.declared.store.Paired.{Paired}
 use Rattle.paired.specs.Held.{entries_of, pairings_of}
 

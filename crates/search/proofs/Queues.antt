@@ -1,16 +1,12 @@
 -- What a push and a pop do to the slots that wait.
-use Rattle.std.proofs.Common.{◌≡◌, ℕ, zero, suc, ◌+◌, ◌-◌, ◌<◌, ◌≤◌, ◌⊎◌, List, [], ◌∷◌, ◌++◌, length, get_or, take, drop, set, Some, None, sym, refl, ap, ◌∙◌, inl, inr, arith, length-drop}
-use Rattle.std.proofs.lemmas.List.{drop-set-add, take_more_set, drop_more, drop_all}
+use Rattle.std.proofs.Common.{◌≡◌, ℕ, zero, suc, ◌+◌, ◌-◌, ◌<◌, List, [], ◌∷◌, ◌++◌, length, get_or, take, drop, set, Some, sym, ap, ◌∙◌, arith, length-drop}
+use Rattle.std.proofs.lemmas.List.{drop-set-add, take_more_set, drop_more}
 use Rattle.std.proofs.lemmas.Bool.{cond-true, lt-ltb}
 use Rattle.search.specs.Lines.{first_of, pushed, rest_of}
 
 take_cons : {E : Type 0} (c : ℕ) (x : E) (xs : List E) → 0 < c → take c (x ∷ xs) ≡ x ∷ take (c - 1) xs
 take_cons zero x xs some = absurd (omega arith)
 take_cons (suc c) x xs some = ap (λ n. x ∷ take n xs) (omega arith)
-
-take_nil : {E : Type 0} (c : ℕ) → take {A = E} c [] ≡ []
-take_nil zero = refl
-take_nil (suc c) = refl
 
 -- `count` slots of xs from `head` on
 module _ {E : Type 0} (xs : List E) (head count : ℕ) where
@@ -25,18 +21,7 @@ module _ {E : Type 0} (xs : List E) (head count : ℕ) where
   pub pop_waits : (e : E) → 0 < count → head < length xs → waits ≡ get_or xs head e ∷ take (count - 1) (drop (head + 1) xs)
   pop_waits e some inside = ap (take count) (drop_more xs head e inside) ∙ take_cons count (get_or xs head e) (drop (head + 1) xs) some
 
-  pub none_waits : (count ≡ 0) ⊎ (length xs ≤ head) → waits ≡ []
-  none_waits (inl e) = ap (λ n. take n (drop head xs)) e
-  none_waits (inr past) = ap (take count) (drop_all head xs past) ∙ take_nil count
-
 -- what is popped stood first
 pub popped_some : {E : Type 0} (W V : List E) (e : E) → Some e ≡ first_of W → V ≡ rest_of W → W ≡ e ∷ V
-popped_some [] V e f r = let z : ◌≡◌ {A = ℕ} 0 1 = cc in absurd (omega arith)
+popped_some [] V e f r = cc
 popped_some (x ∷ xs) V e f r = cc
-
-pub popped_none : {E : Type 0} (W : List E) → None ≡ first_of W → W ≡ []
-popped_none [] f = refl
-popped_none (x ∷ xs) f = let z : ◌≡◌ {A = ℕ} 0 1 = cc in absurd (omega arith)
-
-pub pushed_room : {E : Type 0} (room : ℕ) (W : List E) (e : E) → 0 < room → pushed room W e ≡ W ++ (e ∷ [])
-pushed_room room W e some = cond-true _ (W ++ (e ∷ [])) W (lt-ltb 0 room some)

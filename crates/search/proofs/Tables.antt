@@ -1,65 +1,53 @@
 -- A table of distances in which one more name is reached.
-use Rattle.std.proofs.Common.{◌≡◌, ℕ, zero, suc, ◌+◌, ◌<◌, ◌≤◌, true, false, eqb, ◌⊎◌, List, [], ◌∷◌, length, set, ap, ◌∙◌, inl, inr, arith}
-use Rattle.std.proofs.lemmas.List.{get_or-set_same, get_or-set_other}
-use Rattle.std.proofs.lemmas.Bool.{cases_Bool, cases_eq, cond-false, cond-true, eq-eqb, ne_eqb}
-use Rattle.search.specs.Tables.{at, unknowns}
+use Rattle.std.proofs.Common.{◌≡◌, ℕ, zero, suc, ◌+◌, ◌<◌, ◌≤◌, true, false, ◌⊎◌, List, [], ◌∷◌, length, set, Some, None, Option, is_some, refl, inl, inr, arith}
+use Rattle.std.proofs.lemmas.Grind.{common_steps}
+use Rattle.std.proofs.lemmas.List.{get_or_past, get_or-replicate}
+use Rattle.std.proofs.lemmas.Bool.{cases_lt}
+use Rattle.search.specs.Tables.{at, blank, unknowns}
 
 -- N has what D has, and maybe more
-abbrev pub More : List ℕ → List ℕ → Type 0
-More D N = (z : ℕ) → at D z < 255 → at N z ≡ at D z
+abbrev pub More : List (Option ℕ) → List (Option ℕ) → Type 0
+More D N = (z d : ℕ) → at D z ≡ Some d → at N z ≡ Some d
 
--- no name is farther in N than in D
-abbrev pub Lower : List ℕ → List ℕ → Type 0
-Lower D N = (z : ℕ) → at N z ≤ at D z
+-- at most d links reach y
+abbrev pub Near : List (Option ℕ) → ℕ → ℕ → Type 0
+Near D y d = (n : ℕ) × (at D y ≡ Some n) × (n ≤ d)
 
-pub set_other : (D : List ℕ) (y v z : ℕ) → (z ≡ y → ⊥) → at (set D y v) z ≡ at D z
-set_other D y v z other = get_or-set_other D y z v 255 other
+pub near_more : (D N : List (Option ℕ)) (y d : ℕ) → More D N → Near D y d → Near N y d
+near_more D N y d more (n, is, le) = (n, more y n is, le)
 
--- y is not reached yet, and can be noted at v
-pub record Fresh (D : List ℕ) (y v : ℕ) : Type 0 where
+pub reached : (o : Option ℕ) → is_some o ≡ true → (d : ℕ) × (o ≡ Some d)
+reached None t = cc
+reached (Some d) t = (d, refl)
+
+pub unreached : (o : Option ℕ) → is_some o ≡ false → o ≡ None
+unreached None f = refl
+unreached (Some d) f = cc
+
+-- y is not reached yet, and can be noted
+pub record Fresh (D : List (Option ℕ)) (y : ℕ) : Type 0 where
   pub size : length D ≡ 128
   pub below : y < 128
-  pub new : at D y ≡ 255
-  pub few : v ≤ 128
+  pub new : at D y ≡ None
 
-module _ (D : List ℕ) (y v : ℕ) (fresh : Fresh D y v) where
-  pub set_same : at (set D y v) y ≡ v
-  set_same = get_or-set_same D y v 255 (omega arith)
+module _ (D : List (Option ℕ)) (y v : ℕ) (fresh : Fresh D y) where
+  pub set_same : at (set D y (Some v)) y ≡ Some v
+  set_same = grind (arith, common_steps)
 
-  pub set_more : More D (set D y v)
-  set_more z k = set_other D y v z (λ e. let f : at D z ≡ at D y = ap (at D) e in omega arith)
+  pub set_more : More D (set D y (Some v))
+  set_more z d is = grind (arith, common_steps)
 
-  pub set_lower : Lower D (set D y v)
-  set_lower z =
-      elim (cases_eq z y) [
-        | inl e ↦
-            let f : at (set D y v) z ≡ v = ap (at (set D y v)) e ∙ set_same in
-            let g : at D z ≡ 255 = ap (at D) e ∙ fresh.new in
-            omega arith
-        | inr other ↦ let f = set_other D y v z other in omega arith
-      ]
-
-  pub set_known : (z : ℕ) → at (set D y v) z < 255 → (z ≡ y) ⊎ (at D z < 255)
-  set_known z k =
-      elim (cases_eq z y) [
-        | inl e ↦ inl e
-        | inr other ↦ let f = set_other D y v z other in inr (omega arith)
-      ]
-
-unknown_more : (d : ℕ) (D : List ℕ) → eqb d 255 ≡ true → unknowns (d ∷ D) ≡ suc (unknowns D)
-unknown_more d D t = cond-true (eqb d 255) (suc (unknowns D)) (unknowns D) t
-
-unknown_same : (d : ℕ) (D : List ℕ) → eqb d 255 ≡ false → unknowns (d ∷ D) ≡ unknowns D
-unknown_same d D f = cond-false (eqb d 255) (suc (unknowns D)) (unknowns D) f
+  pub set_known : (z d : ℕ) → at (set D y (Some v)) z ≡ Some d → ((z ≡ y) × (d ≡ v)) ⊎ (at D z ≡ Some d)
+  set_known z d is = grind (arith, common_steps)
 
 -- one name reached is one less that is not
-pub unknowns_set : (D : List ℕ) (y v : ℕ) → y < length D → at D y ≡ 255 → v < 255 → unknowns (set D y v) + 1 ≡ unknowns D
-unknowns_set [] y v lt e l = absurd (omega arith)
-unknowns_set (d ∷ D) zero v lt e l =
-    omega (arith, unknown_same v D (ne_eqb v 255 (λ q. omega arith)), unknown_more d D (eq-eqb d 255 e))
-unknowns_set (d ∷ D) (suc y) v lt e l =
-    let less = unknowns_set D y v (omega arith) e l in
-    elim (cases_Bool (eqb d 255)) [
-      | inl t ↦ omega (arith, unknown_more d (set D y v) t, unknown_more d D t)
-      | inr f ↦ omega (arith, unknown_same d (set D y v) f, unknown_same d D f)
-    ]
+pub unknowns_set : (D : List (Option ℕ)) (y v : ℕ) → y < length D → at D y ≡ None → unknowns (set D y (Some v)) + 1 ≡ unknowns D
+unknowns_set [] y v lt new = absurd (omega arith)
+unknowns_set (None ∷ D) zero v lt new = omega arith
+unknowns_set (Some d ∷ D) zero v lt new = cc
+unknowns_set (None ∷ D) (suc y) v lt new = grind (arith, unknowns_set D y v)
+unknowns_set (Some d ∷ D) (suc y) v lt new = grind (arith, unknowns_set D y v)
+
+pub at_blank : (z : ℕ) → at blank z ≡ None
+at_blank z =
+    elim (cases_lt z 128) [ inl lt ↦ get_or-replicate 128 z None None lt | inr ge ↦ get_or_past blank z None ge ]

@@ -1,104 +1,93 @@
 -- What the search keeps true from turn to turn, and why its answer is the nearest.
-use Rattle.std.proofs.Common.{◌≡◌, ℕ, ◌+◌, ◌<◌, ◌≤◌, Bool, true, false, ltb, ◌⊎◌, List, [], ◌∷◌, map, set, replicate, Some, None, Option, sym, refl, ap, ◌∙◌, subst, inl, inr, arith, length-set}
+use Rattle.std.proofs.Common.{◌≡◌, ℕ, ◌+◌, ◌<◌, ◌≤◌, Bool, true, false, ltb, ◌⊎◌, List, [], ◌∷◌, map, set, Some, None, Option, sym, refl, ap, ◌∙◌, subst, inl, inr, arith, length-set}
 use Rattle.std.specs.List.{AllByRecursion}
-use Rattle.std.proofs.lemmas.List.{get_or_past, get_or-replicate, get_or-set_same}
-use Rattle.std.proofs.lemmas.Bool.{both_ways, cases_eq, cases_lt, cond-true, lt-ltb}
-use Rattle.links.specs.Chains.{Chain, Linked, Nearest, fewest, next, none}
-use Rattle.links.specs.Lists.{Member}
+use Rattle.std.proofs.lemmas.List.{get_or-set_same}
+use Rattle.std.proofs.lemmas.Bool.{cond-true, lt-ltb}
+use Rattle.links.specs.Chains.{Chain, Nearest, fewest, next, none}
+use Rattle.links.specs.Lists.{Member, present}
 use Rattle.links.proofs.Fewest.{fewest_is}
-use Rattle.search.specs.Entries.{Inside, present, searched}
-use Rattle.search.specs.Tables.{at, unknowns}
-use Rattle.search.specs.Walks.{Walk, visited, walk}
+use Rattle.search.specs.Entries.{Inside, searched}
+use Rattle.search.specs.Lines.{first_of}
+use Rattle.search.specs.Tables.{at, blank}
+use Rattle.search.specs.Walks.{Walk, noted, visited, walk}
 use Rattle.search.proofs.Rising.{Rising, rising_member, rising_wider}
-use Rattle.search.proofs.Tables.{set_other, unknowns_set}
-use Rattle.search.proofs.Visits.{Done, Honest, Mid, Table, all_near, opens, under_visited}
+use Rattle.search.proofs.Tables.{Fresh, Near, at_blank, set_known}
+use Rattle.search.proofs.Visits.{Done, Honest, Mid, Table, all_near, honest_made, opens, under_visited}
 
 -- what waits has distances that rise by at most one from the first, and nothing is reached farther
-abbrev pub Stepped : List ℕ → List ℕ → Type 0
+abbrev pub Stepped : List (Option ℕ) → List ℕ → Type 0
 Stepped D [] = Unit {0}
-Stepped D (x ∷ ys) = Rising D (at D x) (at D x + 1) ys × ((y : ℕ) → at D y < 255 → at D y ≤ at D x + 1)
+Stepped D (x ∷ ys) = (n : ℕ) × (at D x ≡ Some n) × Rising D n (n + 1) ys × ((y d : ℕ) → at D y ≡ Some d → d ≤ n + 1)
 
 -- between two turns; `left` bounds the turns that are left
-pub record Top (links : List (ℕ × ℕ)) (goal : ℕ → Bool) (from left : ℕ) (D ys : List ℕ) : Type 0 where
+pub record Top (links : List (ℕ × ℕ)) (goal : ℕ → Bool) (from left : ℕ) (D : List (Option ℕ)) (ys : List ℕ) : Type 0 where
   pub table : Table links from D
   pub stepped : Stepped D ys
-  pub late : (y : ℕ) → Member y ys → at D y + left ≤ 128
-  pub fate : (y : ℕ) → at D y < 255 → Member y ys ⊎ Done links goal D y
+  pub late : (y d : ℕ) → Member y ys → at D y ≡ Some d → d + left ≤ 128
+  pub fate : (y d : ℕ) → at D y ≡ Some d → Member y ys ⊎ Done links goal D y d
 
 module _ (links : List (ℕ × ℕ)) (goal : ℕ → Bool) (from : ℕ) where
   -- the first that waits is taken
-  top_mid : (left x : ℕ) (D ys : List ℕ) → 0 < left → Top links goal from left D (x ∷ ys) → Mid links goal from x (at D x) D ys
-  top_mid left x D ys some t = record {
+  top_mid : (left x : ℕ) (D : List (Option ℕ)) (ys : List ℕ) (t : Top links goal from left D (x ∷ ys)) → Mid links goal from x t.stepped.0 D ys
+  top_mid left x D ys t = record {
     table = t.table;
-    mine = refl;
-    low = omega (arith, t.late x (inl refl));
-    rising = t.stepped.0;
-    near = t.stepped.1;
+    mine = t.stepped.1;
+    rising = t.stepped.2;
+    near = t.stepped.3;
     fate = t.fate;
   }
 
-  stepped_from : (x n : ℕ) (D ys : List ℕ) → Mid links goal from x n D ys → Stepped D ys
+  stepped_from : (x n : ℕ) (D : List (Option ℕ)) (ys : List ℕ) → Mid links goal from x n D ys → Stepped D ys
   stepped_from x n D [] m = tt
   stepped_from x n D (y ∷ ys) m =
-      let low = m.rising.0 in
-      (rising_wider D (at D y) (n + 1) (at D y + 1) ys (omega arith) m.rising.1, λ z k. omega (arith, m.near z k))
+      let k = m.rising.0 in
+      (k, m.rising.1, grind (arith, rising_wider D k (n + 1) (k + 1) ys, m.rising), λ z d is. grind (arith, m.near z d is, m.rising))
 
   -- all names next to it are noted
-  mid_top : (left x n : ℕ) (D ys : List ℕ) → n + 1 + left ≤ 128 → goal x ≡ false → ((z : ℕ) → Linked links x z → at D z ≤ n + 1)
-      → Mid links goal from x n D ys → Top links goal from left D ys
-  mid_top left x n D ys few g near m =
-      let own : Done links goal D x = (g, λ z j. omega (arith, near z j, m.mine)) in
-      record {
-        table = m.table;
-        stepped = stepped_from x n D ys m;
-        late = λ y q. omega (arith, (rising_member D n (n + 1) ys y m.rising q).1);
-        fate = λ y k.
-            elim (m.fate y k) [
-              | inl (inl e) ↦ inr (subst (Done links goal D) e own)
-              | inl (inr q) ↦ inl q
-              | inr d ↦ inr d
-            ];
-      }
+  mid_top : (left x n : ℕ) (D : List (Option ℕ)) (ys : List ℕ) → n + 1 + left ≤ 128 → Done links goal D x n → Mid links goal from x n D ys → Top links goal from left D ys
+  mid_top left x n D ys few own m = record {
+    table = m.table;
+    stepped = stepped_from x n D ys m;
+    late = λ y d q is. omega (arith, rising_member D n (n + 1) ys y d m.rising q is);
+    fate = λ y d is. grind (arith, m.fate y d is, m.mine, own);
+  }
 
   -- x is the first that waits: all that is nearer is done, so no chain leads to a goal nearer than x
-  module _ (left x : ℕ) (D ys : List ℕ) (t : Top links goal from left D (x ∷ ys)) where
-    waits_later : (c : ℕ) → Member c (x ∷ ys) → at D x ≤ at D c
-    waits_later c (inl e) = let f : at D x ≡ at D c = ap (at D) e in omega arith
-    waits_later c (inr m) = (rising_member D (at D x) (at D x + 1) ys c t.stepped.0 m).0
+  module _ (left x : ℕ) (D : List (Option ℕ)) (ys : List ℕ) (t : Top links goal from left D (x ∷ ys)) where
+    abbrev n : ℕ
+    n = t.stepped.0
 
-    settled : (c : ℕ) → at D c < at D x → Done links goal D c
-    settled c lt =
-        let few = t.late x (inl refl) in
-        elim (t.fate c (omega arith)) [ inl m ↦ absurd (omega (arith, waits_later c m)) | inr d ↦ d ]
+    waits_later : (c d : ℕ) → at D c ≡ Some d → Member c (x ∷ ys) → n ≤ d
+    waits_later c d is (inl e) = grind arith
+    waits_later c d is (inr m) = (rising_member D n (n + 1) ys c d t.stepped.2 m is).0
 
-    chain_known : (c k : ℕ) → Chain links from c k → k ≤ at D x → at D c ≤ k
-    chain_known c k none le = omega (arith, t.table.start)
-    chain_known c k (next {b = b} {n = n} ch j) le =
-        let a : at D b ≤ n = chain_known b n ch (omega arith) in
-        omega (arith, (settled b (omega arith)).1 c j)
+    settled : (c d : ℕ) → at D c ≡ Some d → d < n → Done links goal D c d
+    settled c d is lt = grind (arith, t.fate c d is, waits_later c d is)
 
-    no_nearer : (c k : ℕ) → Chain links from c k → k < at D x → goal c ≡ false
-    no_nearer c k ch lt = (settled c (omega (arith, chain_known c k ch (omega arith)))).0
+    chain_near : (c k : ℕ) → Chain links from c k → k ≤ n → Near D c k
+    chain_near c k none le = grind (arith, t.table.start)
+    chain_near c k (next {b = b} {n = m} ch j) le =
+        let a = chain_near b m ch (omega arith) in
+        grind (arith, a, settled b a.0)
 
-    pub goal_found : goal x ≡ true → Nearest links goal from (Some (at D x))
-    goal_found g = (
-      (x, g, t.table.sound x (omega (arith, t.late x (inl refl)))),
-      λ c k ch h. elim (cases_lt k (at D x)) [ inl lt ↦ absurd (both_ways (goal c) (no_nearer c k ch lt) h) | inr ge ↦ ge ],
-    )
+    no_nearer : (c k : ℕ) → Chain links from c k → k < n → goal c ≡ false
+    no_nearer c k ch lt =
+        let a = chain_near c k ch (omega arith) in
+        grind (arith, a, settled c a.0)
+
+    pub goal_found : goal x ≡ true → Nearest links goal from (Some n)
+    goal_found g = ((x, g, t.table.sound x n t.stepped.1), λ c k ch h. grind (arith, no_nearer c k ch))
 
   -- nothing waits: all that a chain leads to is reached, and done
-  module _ (left : ℕ) (D : List ℕ) (t : Top links goal from left D []) where
-    done : (c : ℕ) → at D c < 255 → Done links goal D c
-    done c k = elim (t.fate c k) [ inl m ↦ absurd m | inr d ↦ d ]
+  module _ (left : ℕ) (D : List (Option ℕ)) (t : Top links goal from left D []) where
+    all_done : (c k : ℕ) → Chain links from c k → (d : ℕ) × Done links goal D c d
+    all_done c k none = (0, grind (arith, t.fate from 0 t.table.start))
+    all_done c k (next {b = b} {n = m} ch j) =
+        let r = (all_done b m ch).1.1 c j in
+        (r.0, grind (arith, t.fate c r.0 r.1))
 
-    known_all : (c k : ℕ) → Chain links from c k → at D c < 255
-    known_all c k none = omega (arith, t.table.start)
-    known_all c k (next {b = b} {n = n} ch j) =
-        let a = known_all b n ch in
-        omega (arith, (done b a).1 c j, t.table.small b a)
-
-    pub goal_none : Nearest links goal from None
-    goal_none c k ch = (done c (known_all c k ch)).0
+    goal_none : Nearest links goal from None
+    goal_none c k ch = (all_done c k ch).1.0
 
 -- from a name, what is nearest is what the search answers
 pub nearest_searched : (count : ℕ) (links : List (ℕ × ℕ)) (goal : ℕ → Bool) (from : ℕ) (r : Option ℕ)
@@ -106,110 +95,94 @@ pub nearest_searched : (count : ℕ) (links : List (ℕ × ℕ)) (goal : ℕ →
 nearest_searched count links goal from r below near =
     fewest_is links goal from r near ∙ sym (cond-true (ltb from count) (fewest links goal from) None (lt-ltb from count below))
 
--- the table in which nothing is reached
-abbrev pub blank : List ℕ
-blank = replicate 128 255
-
-at_blank : (z : ℕ) → at blank z ≡ 255
-at_blank z =
-    elim (cases_lt z 128) [ inl lt ↦ get_or-replicate 128 z 255 255 lt | inr ge ↦ get_or_past blank z 255 ge ]
-
--- the table in which the name is reached from which the search starts
-abbrev pub started : ℕ → List ℕ
-started from = set blank from 0
-
+-- the name from which the search starts is noted, and no other
 module _ (links : List (ℕ × ℕ)) (goal : ℕ → Bool) (from : ℕ) (below : from < 128) where
-  start : at (started from) from ≡ 0
-  start = get_or-set_same blank from 0 255 below
+  abbrev started : List (Option ℕ)
+  started = set blank from (Some 0)
 
-  -- each name is the first, or not reached
-  start_cases : (z : ℕ) → ((from ≡ z) × (at (started from) z ≡ 0)) ⊎ (at (started from) z ≡ 255)
-  start_cases z =
-      elim (cases_eq from z) [
-        | inl e ↦ inl (e, ap (at (started from)) (sym e) ∙ start)
-        | inr ne ↦ inr (set_other blank from 0 z (λ e. ne (sym e)) ∙ at_blank z)
-      ]
+  -- each name that is reached is the first
+  start_known : (z d : ℕ) → at started z ≡ Some d → (z ≡ from) × (d ≡ 0)
+  start_known z d is =
+      let fresh : Fresh blank from = record { size = refl; below = below; new = at_blank from } in
+      grind (arith, set_known blank from 0 fresh z d is, at_blank z)
 
-  start_known : (z : ℕ) → at (started from) z < 255 → (from ≡ z) × (at (started from) z ≡ 0)
-  start_known z k = elim (start_cases z) [ inl r ↦ r | inr e ↦ absurd (omega arith) ]
+  top_start : Top links goal from 128 started (from ∷ [])
+  top_start =
+      let start : at started from ≡ Some 0 = get_or-set_same blank from (Some 0) None below in
+      let here : Chain links from from 0 = none in
+      record {
+        table = record {
+          size = length-set blank from (Some 0);
+          start = start;
+          sound = λ z d is. grind (arith, here, start_known z d is);
+        };
+        stepped = (0, start, omega arith, λ z d is. omega (arith, start_known z d is));
+        late = λ z d m is. omega (arith, start_known z d is);
+        fate = λ z d is. inl (inl (sym (start_known z d is).0));
+      }
 
-  top_start : Top links goal from 128 (started from) (from ∷ [])
-  top_start = record {
-    table = record {
-      size = length-set blank from 0;
-      start = start;
-      sound = λ z k.
-          let r = start_known z k in
-          subst (Chain links from z) (sym r.1) (subst (λ v. Chain links from v 0) r.0 none);
-      small = λ z k. omega (arith, (start_known z k).1);
-      bytes = λ z. elim (start_cases z) [ inl r ↦ omega (arith, r.1) | inr e ↦ omega arith ];
-    };
-    stepped = (omega arith, λ z k. omega (arith, (start_known z k).1));
-    late = λ z m. elim m [ inl e ↦ omega (arith, ap (at (started from)) e, start) | inr n ↦ absurd n ];
-    fate = λ z k. inl (inl (start_known z k).0);
-  }
+-- between two turns, of entries of any kind
+pub record Going {E : Type 0} (name_of : E → ℕ) (distance_of : E → Option ℕ → Option ℕ) (links : List (ℕ × ℕ)) (goal : ℕ → Bool) (from left : ℕ) (w : Walk E) : Type 0 where
+  pub top : Top links goal from left w.known (map name_of w.wait)
+  pub honest : Honest name_of distance_of w.known w.wait
 
-  pub unknowns_start : unknowns (started from) + 1 ≡ 128
-  unknowns_start = unknowns_set blank from 0 below (at_blank from) (omega arith)
+module _ {E : Type 0} (made : ℕ → ℕ → E) (name_of : E → ℕ) (distance_of : E → Option ℕ → Option ℕ)
+    (named : (y d : ℕ) → name_of (made y d) ≡ y) (measured : (y d : ℕ) → distance_of (made y d) (Some d) ≡ Some d) where
+  pub going_start : (links : List (ℕ × ℕ)) (goal : ℕ → Bool) (from left : ℕ) (v w : Walk E) → from < 128
+      → v ≡ walk blank [] → w ≡ noted made from 0 v → left ≡ 128 → Going name_of distance_of links goal from left w
+  going_start links goal from left v w below blank-is note-is all =
+      let N = set blank from (Some 0) in
+      let first : noted made from 0 (walk blank []) ≡ walk N (made from 0 ∷ []) = grind (arith, at_blank from) in
+      let same : w ≡ walk N (made from 0 ∷ []) = cc (note-is, blank-is, first) in
+      let start = top_start links goal from below in
+      subst (Going name_of distance_of links goal from left) (sym same) (record {
+        top = grind (arith, start, named from 0);
+        honest = (honest_made made name_of distance_of named measured N from 0 start.table.start, tt);
+      })
 
--- the first entry waits alone
-module _ {E : Type 0} (name_of : E → ℕ) (distance_of : E → ℕ → ℕ) (links : List (ℕ × ℕ)) (goal : ℕ → Bool) (from : ℕ) (below : from < 128)
-    (e : E) (name-is : name_of e ≡ from) (distance_is : distance_of e 0 ≡ 0) where
-  honest_start : Honest name_of distance_of (started from) (e ∷ [])
-  honest_start =
-      let z : at (started from) (name_of e) ≡ 0 = ap (at (started from)) name-is ∙ start links goal from below in
-      (subst (λ v. distance_of e v ≡ v) (sym z) distance_is, tt)
+  -- a turn of the search: e is taken of what waits, W, and V is left
+  module _ (es : List (Option (ℕ × ℕ))) {goal : ℕ → Bool} {from left : ℕ} {D : List (Option ℕ)} {W V : List E} {e : E} (taken : W ≡ e ∷ V)
+      (going : Going name_of distance_of (present es) goal from left (walk D W)) where
+    abbrev y : ℕ
+    y = name_of e
 
-  pub starts : (W : List E) (left : ℕ) → W ≡ e ∷ [] → left ≡ 128
-      → Top links goal from left (started from) (map name_of W) × Honest name_of distance_of (started from) W
-  starts W left held all = (
-    subst (λ k. Top links goal from k (started from) (map name_of W)) (sym all)
-        (subst (Top links goal from 128 (started from)) (sym (ap (map name_of) held ∙ ap (λ y. y ∷ []) name-is)) (top_start links goal from below)),
-    subst (Honest name_of distance_of (started from)) (sym held) honest_start,
-  )
+    going_e : Going name_of distance_of (present es) goal from left (walk D (e ∷ V))
+    going_e = subst (λ S. Going name_of distance_of (present es) goal from left (walk D S)) taken going
 
--- a turn of the search: e is taken of what waits, W, and V is left
-module _ {E : Type 0} (made : ℕ → ℕ → E) (name_of : E → ℕ) (distance_of : E → ℕ → ℕ)
-    (named : (y d : ℕ) → name_of (made y d) ≡ y) (measured : (y d : ℕ) → distance_of (made y d) d ≡ d)
-    (es : List (Option (ℕ × ℕ))) {goal : ℕ → Bool} {from left : ℕ} {D : List ℕ} {W V : List E} {e : E} (taken : W ≡ e ∷ V)
-    (top : Top (present es) goal from left D (map name_of W)) (honest : Honest name_of distance_of D W) where
-  abbrev y : ℕ
-  y = name_of e
+    abbrev least : ℕ
+    least = going_e.top.stepped.0
 
-  abbrev n : ℕ
-  n = at D y
+    -- x and d are what the code has for the name and the distance of e
+    module _ (x d : ℕ) (name-is : x ≡ name_of e) (said : distance_of e (at D (name_of e)) ≡ Some d) where
+      turn_is : at D y ≡ Some d
+      turn_is = sym going_e.honest.0 ∙ said
 
-  top_e : Top (present es) goal from left D (y ∷ map name_of V)
-  top_e = subst (λ S. Top (present es) goal from left D (map name_of S)) taken top
+      turn_same : d ≡ least
+      turn_same = grind (arith, turn_is, going_e.top.stepped.1)
 
-  honest_e : Honest name_of distance_of D (e ∷ V)
-  honest_e = subst (Honest name_of distance_of D) taken honest
+      pub turn_short : d + left ≤ 128
+      turn_short = going_e.top.late y d (inl refl) turn_is
 
-  turn_short : at D (name_of e) + left ≤ 128
-  turn_short = top_e.late y (inl refl)
+      pub turn_found : goal x ≡ true → Nearest (present es) goal from (Some d)
+      turn_found g = rw turn_same (goal_found (present es) goal from left y D (map name_of V) going_e.top (ap goal (sym name-is) ∙ g))
 
-  turn_distance : distance_of e (at D (name_of e)) ≡ at D (name_of e)
-  turn_distance = honest_e.0
+      pub turn_next : (less : ℕ) (v : Walk E) → left ≡ less + 1 → AllByRecursion (Inside 128) es → goal x ≡ false
+          → v ≡ visited made x (d + 1) es (walk D V) → Going name_of distance_of (present es) goal from less v
+      turn_next less v fewer inside g visit-is =
+          let w : Walk E = visited made y (least + 1) es (walk D V) in
+          let same : v ≡ w = cc (visit-is, name-is, turn_same) in
+          let mid = top_mid (present es) goal from left y D (map name_of V) going_e.top in
+          let r = under_visited made name_of distance_of named measured (present es) goal from y least es (walk D V) (mid, going_e.honest.1) (opens es y inside) in
+          let after = r.0.0 in
+          let self : Near w.known y (least + 1) = (least, after.0.mine, omega arith) in
+          subst (Going name_of distance_of (present es) goal from less) (sym same) (record {
+            top = mid_top (present es) goal from less y least w.known (map name_of w.wait) (omega (arith, turn_short, turn_same))
+                (ap goal (sym name-is) ∙ g, all_near w.known y (least + 1) self es r.1) after.0;
+            honest = after.1;
+          })
 
-  -- x and d are what the code has for the name and the distance of e
-  module _ (x d : ℕ) (name-is : x ≡ name_of e) (distance_is : d ≡ distance_of e (at D (name_of e))) where
-    pub turn_found : goal x ≡ true → Nearest (present es) goal from (Some d)
-    turn_found g =
-        subst (λ m. Nearest (present es) goal from (Some m)) (sym (distance_is ∙ turn_distance))
-        (goal_found (present es) goal from left y D (map name_of V) top_e (ap goal (sym name-is) ∙ g))
-
-    pub turn_next : (less : ℕ) (N : List ℕ) (U : List E) → left ≡ less + 1 → AllByRecursion (Inside 128) es → goal x ≡ false
-        → walk N U ≡ visited made x (d + 1) es (walk D V)
-        → Top (present es) goal from less N (map name_of U) × Honest name_of distance_of N U
-    turn_next less N U fewer inside g v =
-        let w : Walk E = visited made y (n + 1) es (walk D V) in
-        let as_said = ap (λ z. visited made z (d + 1) es (walk D V)) name-is in
-        let as-known = ap (λ k. visited made y (k + 1) es (walk D V)) (distance_is ∙ turn_distance) in
-        let same : walk N U ≡ w = v ∙ as_said ∙ as-known in
-        let mid = top_mid (present es) goal from left y D (map name_of V) (omega arith) top_e in
-        let r = under_visited made name_of distance_of named measured (present es) goal from y n es (walk D V) (mid, honest_e.1) (opens es y inside) in
-        let after = r.0.0 in
-        let self : at w.known y ≤ n + 1 = omega (arith, after.0.mine) in
-        let t = mid_top (present es) goal from less y n w.known (map name_of w.wait) (omega (arith, turn_short)) (ap goal (sym name-is) ∙ g)
-        (all_near w.known y (n + 1) self es r.1) after.0 in
-        subst (λ s. Top (present es) goal from less s.known (map name_of s.wait) × Honest name_of distance_of s.known s.wait) (sym same) (t, after.1)
+-- nothing waits
+pub turn_none : {E : Type 0} (name_of : E → ℕ) (distance_of : E → Option ℕ → Option ℕ) (links : List (ℕ × ℕ)) (goal : ℕ → Bool) (from left : ℕ) (D : List (Option ℕ)) (W : List E)
+    → Going name_of distance_of links goal from left (walk D W) → None ≡ first_of W → Nearest links goal from None
+turn_none name_of distance_of links goal from left D [] going first = goal_none links goal from left D going.top
+turn_none name_of distance_of links goal from left D (e ∷ es) going first = cc

@@ -1,103 +1,70 @@
 -- What stays true while the names next to one are noted.
-use Rattle.std.proofs.Common.{◌≡◌, ℕ, ◌+◌, ◌<◌, ◌≤◌, Bool, false, cond, eqb, ◌⊎◌, List, [], ◌∷◌, ◌++◌, map, length, get_or, drop, set, IfSome, Some, None, Option, sym, refl, ap, ◌∙◌, subst, inl, inr, arith, length-set}
+use Rattle.std.proofs.Common.{◌≡◌, ℕ, ◌+◌, ◌<◌, ◌≤◌, Bool, false, ◌⊎◌, List, [], ◌∷◌, ◌++◌, map, length, set, IfSome, Some, None, Option, is_some, sym, ap, ◌∙◌, subst, arith}
 use Rattle.std.specs.List.{AllByRecursion}
 use Rattle.std.proofs.ByRecursion.{All-push, All-weaker}
-use Rattle.std.proofs.lemmas.List.{at_drop_more, map_push}
-use Rattle.std.proofs.lemmas.Bool.{cases_eq, cond_both, cond-false, cond-true, eq-eqb, eqb-false, eqb-true, ne_eqb}
+use Rattle.std.proofs.lemmas.Bool.Decides.{nat_tests}
+use Rattle.std.proofs.lemmas.Grind.{common_steps}
+use Rattle.std.proofs.lemmas.List.{map_push}
+use Rattle.std.proofs.lemmas.Bool.{cond_both}
+use Rattle.std.proofs.lemmas.Option.{IfSome_then}
 use Rattle.links.specs.Chains.{Chain, Linked, next}
-use Rattle.links.specs.Lists.{Member}
+use Rattle.links.specs.Lists.{Member, present}
 use Rattle.links.proofs.Lists.{member_left, member_right}
 use Rattle.links.proofs.Reach.{linked_more}
-use Rattle.search.specs.Entries.{Inside, across, present}
+use Rattle.search.specs.Entries.{Inside, across}
 use Rattle.search.specs.Tables.{at}
 use Rattle.search.specs.Walks.{Walk, noted, noted_if, visited, walk}
-use Rattle.search.proofs.Rising.{Rising, rising_ends, rising_kept, rising_push}
-use Rattle.search.proofs.Tables.{Fresh, Lower, More, set_known, set_lower, set_more, set_same}
+use Rattle.search.proofs.Rising.{Rising, rising_more, rising_push}
+use Rattle.search.proofs.Tables.{Fresh, More, Near, near_more, reached, set_more, set_same, unreached}
 
--- nothing is left to do at y: it is no goal, and each name next to it is reached
-abbrev pub Done : List (ℕ × ℕ) → (ℕ → Bool) → List ℕ → ℕ → Type 0
-Done links goal D y = (goal y ≡ false) × ((z : ℕ) → Linked links y z → at D z ≤ at D y + 1)
+-- nothing is left to do at y, which d links reach: it is no goal, and each name next to it is reached
+abbrev pub Done : List (ℕ × ℕ) → (ℕ → Bool) → List (Option ℕ) → ℕ → ℕ → Type 0
+Done links goal D y d = (goal y ≡ false) × ((z : ℕ) → Linked links y z → Near D z (d + 1))
 
 -- what is true of the table at all times
-pub record Table (links : List (ℕ × ℕ)) (from : ℕ) (D : List ℕ) : Type 0 where
+pub record Table (links : List (ℕ × ℕ)) (from : ℕ) (D : List (Option ℕ)) : Type 0 where
   pub size : length D ≡ 128
-  pub start : at D from ≡ 0
-  pub sound : (y : ℕ) → at D y < 255 → Chain links from y (at D y)
-  pub small : (y : ℕ) → at D y < 255 → at D y ≤ 128
-  pub bytes : (y : ℕ) → at D y ≤ 255
+  pub start : at D from ≡ Some 0
+  pub sound : (y d : ℕ) → at D y ≡ Some d → Chain links from y d
 
 -- while x, which n links reach, is visited; ys are the names that wait
-pub record Mid (links : List (ℕ × ℕ)) (goal : ℕ → Bool) (from x n : ℕ) (D ys : List ℕ) : Type 0 where
+pub record Mid (links : List (ℕ × ℕ)) (goal : ℕ → Bool) (from x n : ℕ) (D : List (Option ℕ)) (ys : List ℕ) : Type 0 where
   pub table : Table links from D
-  pub mine : at D x ≡ n
-  pub low : n < 128
+  pub mine : at D x ≡ Some n
   pub rising : Rising D n (n + 1) ys
-  pub near : (y : ℕ) → at D y < 255 → at D y ≤ n + 1
-  pub fate : (y : ℕ) → at D y < 255 → Member y (x ∷ ys) ⊎ Done links goal D y
+  pub near : (y d : ℕ) → at D y ≡ Some d → d ≤ n + 1
+  pub fate : (y d : ℕ) → at D y ≡ Some d → Member y (x ∷ ys) ⊎ Done links goal D y d
 
 -- a name next to x is noted
-module _ (links : List (ℕ × ℕ)) (goal : ℕ → Bool) (from x n : ℕ) (D ys : List ℕ) (y : ℕ)
-    (mid : Mid links goal from x n D ys) (fresh : Fresh D y (n + 1)) (next-to : Linked links x y) where
-  abbrev N : List ℕ
-  N = set D y (n + 1)
+module _ (links : List (ℕ × ℕ)) (goal : ℕ → Bool) (from x n : ℕ) (D : List (Option ℕ)) (ys : List ℕ) (y : ℕ)
+    (mid : Mid links goal from x n D ys) (fresh : Fresh D y) (next-to : Linked links x y) where
+  abbrev N : List (Option ℕ)
+  N = set D y (Some (n + 1))
 
   more : More D N
   more = set_more D y (n + 1) fresh
 
-  lower : Lower D N
-  lower = set_lower D y (n + 1) fresh
-
-  same : at N y ≡ n + 1
-  same = set_same D y (n + 1) fresh
-
-  -- what is to show of each name: of y, and of those that were reached before
-  each : (P : ℕ → Type 0) → P y → ((z : ℕ) → at D z < 255 → P z) → (z : ℕ) → at N z < 255 → P z
-  each P new old z k =
-      elim (set_known D y (n + 1) fresh z k) [ inl e ↦ subst P (sym e) new | inr o ↦ old z o ]
-
   table_note : Table links from N
-  table_note =
-      let t = mid.table in
-      record {
-        size = length-set D y (n + 1) ∙ t.size;
-        start = more from (let e = t.start in omega arith) ∙ t.start;
-        sound = each (λ z. Chain links from z (at N z))
-            (subst (Chain links from y) (let m = mid.mine in let e = same in omega arith) (next (t.sound x (omega arith)) next-to))
-            (λ z o. subst (Chain links from z) (sym (more z o)) (t.sound z o));
-        small = each (λ z. at N z ≤ 128) (omega (arith, same)) (λ z o. omega (arith, more z o, t.small z o));
-        bytes = λ z. omega (arith, lower z, t.bytes z);
-      }
+  table_note = record {
+    size = grind (arith, common_steps);
+    start = more from 0 mid.table.start;
+    sound = λ z d is. grind (arith, common_steps, next {b = x} {c = y} (mid.table.sound x n mid.mine) next-to);
+  }
 
-  done_kept : (z : ℕ) → at D z < 255 → Done links goal D z → Done links goal N z
-  done_kept z k (g, near) = (g, λ w j. omega (arith, near w j, lower w, more z k))
+  done_more : (z d : ℕ) → Done links goal D z d → Done links goal N z d
+  done_more z d o = (o.0, λ w j. near_more D N w (d + 1) more (o.1 w j))
 
   pub mid_note : Mid links goal from x n N (ys ++ (y ∷ []))
   mid_note = record {
     table = table_note;
-    mine = more x (omega (arith, mid.mine)) ∙ mid.mine;
-    low = mid.low;
-    rising = rising_push N n (n + 1) ys y same (rising_kept D N n (n + 1) ys more (omega arith) mid.rising);
-    near = each (λ z. at N z ≤ n + 1) (omega (arith, same)) (λ z o. omega (arith, more z o, mid.near z o));
-    fate = each (λ z. Member z (x ∷ (ys ++ (y ∷ []))) ⊎ Done links goal N z)
-        (inl (member_right y (x ∷ ys) (y ∷ []) (inl refl)))
-        (λ z o.
-        elim (mid.fate z o) [
-          | inl m ↦ inl (member_left z (x ∷ ys) (y ∷ []) m)
-          | inr d ↦ inr (done_kept z o d)
-        ]);
+    mine = more x n mid.mine;
+    rising = rising_push N n (n + 1) ys y (set_same D y (n + 1) fresh) (rising_more D N n (n + 1) ys more mid.rising);
+    near = λ z d is. grind (arith, common_steps, mid.near z d);
+    fate = λ z d is. grind (arith, common_steps, mid.fate z d, done_more z d, member_right y (x ∷ ys) (y ∷ []), member_left z (x ∷ ys) (y ∷ []));
   }
 
-module _ {E : Type 0} (made : ℕ → ℕ → E) (D : List ℕ) (W : List E) (y d : ℕ) where
-  pub noted_new : (V : List E) → at D y ≡ 255 → V ≡ W ++ (made y d ∷ []) → walk (set D y d) V ≡ noted made y d (walk D W)
-  noted_new V new e =
-      ap (walk (set D y d)) e ∙ sym (cond-true (eqb (at D y) 255) (walk (set D y d) (W ++ (made y d ∷ []))) (walk D W) (eq-eqb (at D y) 255 new))
-
-  pub noted_old : (at D y ≡ 255 → ⊥) → walk D W ≡ noted made y d (walk D W)
-  noted_old old =
-      sym (cond-false (eqb (at D y) 255) (walk (set D y d) (W ++ (made y d ∷ []))) (walk D W) (ne_eqb (at D y) 255 old))
-
 -- each entry that waits says the distance that the table has
-abbrev pub Honest : {E : Type 0} → (E → ℕ) → (E → ℕ → ℕ) → List ℕ → List E → Type 0
+abbrev pub Honest : {E : Type 0} → (E → ℕ) → (E → Option ℕ → Option ℕ) → List (Option ℕ) → List E → Type 0
 Honest name_of distance_of D es = AllByRecursion (λ e. distance_of e (at D (name_of e)) ≡ at D (name_of e)) es
 
 -- what may follow of the other end of an entry, if it has one at x
@@ -108,150 +75,88 @@ Across x P e = IfSome (across e x) P
 abbrev pub Opens : List (ℕ × ℕ) → ℕ → ℕ → Type 0
 Opens links x y = Linked links x y × (y < 128)
 
-cases_weaker : {X : Type 0} (o : Option X) (P Q : X → Type 0) → ((y : X) → P y → Q y) → IfSome o P → IfSome o Q
-cases_weaker None P Q f c = tt
-cases_weaker (Some y) P Q f c = f y c
-
 -- entries of any kind: how one is made of a name and a distance, and what it says of them
-module _ {E : Type 0} (made : ℕ → ℕ → E) (name_of : E → ℕ) (distance_of : E → ℕ → ℕ)
-    (named : (y d : ℕ) → name_of (made y d) ≡ y) (measured : (y d : ℕ) → distance_of (made y d) d ≡ d) where
-  honest_kept : (D N : List ℕ) (low high : ℕ) (es : List E) → More D N → high < 255
+module _ {E : Type 0} (made : ℕ → ℕ → E) (name_of : E → ℕ) (distance_of : E → Option ℕ → Option ℕ)
+    (named : (y d : ℕ) → name_of (made y d) ≡ y) (measured : (y d : ℕ) → distance_of (made y d) (Some d) ≡ Some d) where
+  honest_more : (D N : List (Option ℕ)) (low high : ℕ) (es : List E) → More D N
       → Rising D low high (map name_of es) → Honest name_of distance_of D es → Honest name_of distance_of N es
-  honest_kept D N low high [] more h r a = tt
-  honest_kept D N low high (e ∷ es) more h (l, r) (a, rest) =
-      let top = rising_ends D (at D (name_of e)) high (map name_of es) r in
-      let q : at N (name_of e) ≡ at D (name_of e) = more (name_of e) (omega (arith, top)) in
-      (subst (λ v. distance_of e v ≡ v) (sym q) a, honest_kept D N (at D (name_of e)) high es more h r rest)
+  honest_more D N low high [] grows r a = tt
+  honest_more D N low high (e ∷ es) grows r a = (grind (arith, grows (name_of e) r.0, r.1, a.0), honest_more D N r.0 high es grows r.3 a.1)
 
   -- a new entry says the distance at which it is noted
-  honest_made : (N : List ℕ) (y d : ℕ) → at N y ≡ d → distance_of (made y d) (at N (name_of (made y d))) ≡ at N (name_of (made y d))
-  honest_made N y d same =
-      subst (λ v. distance_of (made y d) (at N v) ≡ at N v) (sym (named y d)) (subst (λ v. distance_of (made y d) v ≡ v) (sym same) (measured y d))
-
-  names_push : (W : List E) (y d : ℕ) → map name_of (W ++ (made y d ∷ [])) ≡ map name_of W ++ (y ∷ [])
-  names_push W y d = map_push name_of W (made y d) ∙ ap (λ v. map name_of W ++ (v ∷ [])) (named y d)
+  pub honest_made : (N : List (Option ℕ)) (y d : ℕ) → at N y ≡ Some d → distance_of (made y d) (at N (name_of (made y d))) ≡ at N (name_of (made y d))
+  honest_made N y d same = grind (arith, named y d, measured y d)
 
   -- x is visited, which n links reach
   module _ (links : List (ℕ × ℕ)) (goal : ℕ → Bool) (from x n : ℕ) where
     abbrev pub Under : Walk E → Type 0
     Under w = Mid links goal from x n w.known (map name_of w.wait) × Honest name_of distance_of w.known w.wait
 
-    -- v is such a walk too, and no name is farther in it than in w
+    -- v is such a walk too, and has what w has
     abbrev Onward : Walk E → Walk E → Type 0
-    Onward w v = Under v × Lower w.known v.known
+    Onward w v = Under v × More w.known v.known
 
-    under_new : (w : Walk E) (y : ℕ) → Under w → Linked links x y → Fresh w.known y (n + 1)
-        → Under (walk (set w.known y (n + 1)) (w.wait ++ (made y (n + 1) ∷ [])))
+    under_new : (w : Walk E) (y : ℕ) → Under w → Linked links x y → Fresh w.known y
+        → Under (walk (set w.known y (Some (n + 1))) (w.wait ++ (made y (n + 1) ∷ [])))
     under_new w y (mid, honest) next-to fresh =
         let D = w.known in
-        let N = set D y (n + 1) in (
-          subst (Mid links goal from x n N) (sym (names_push w.wait y (n + 1)))
-              (mid_note links goal from x n D (map name_of w.wait) y mid fresh next-to),
+        let N = set D y (Some (n + 1)) in
+        let names : map name_of (w.wait ++ (made y (n + 1) ∷ [])) ≡ map name_of w.wait ++ (y ∷ []) =
+        map_push name_of w.wait (made y (n + 1)) ∙ ap (λ v. map name_of w.wait ++ (v ∷ [])) (named y (n + 1)) in (
+          subst (Mid links goal from x n N) (sym names) (mid_note links goal from x n D (map name_of w.wait) y mid fresh next-to),
           All-push (λ e. distance_of e (at N (name_of e)) ≡ at N (name_of e)) w.wait (made y (n + 1))
-              (honest_kept D N n (n + 1) w.wait (set_more D y (n + 1) fresh) (omega arith) mid.rising honest)
+              (honest_more D N n (n + 1) w.wait (set_more D y (n + 1) fresh) mid.rising honest)
               (honest_made N y (n + 1) (set_same D y (n + 1) fresh)),
         )
 
     -- y is noted where it is new, and otherwise it is near already
     under_note : (w : Walk E) (y : ℕ) → Under w → Opens links x y
-        → Onward w (noted made y (n + 1) w) × (at (noted made y (n + 1) w).known y ≤ n + 1)
+        → Onward w (noted made y (n + 1) w) × Near (noted made y (n + 1) w).known y (n + 1)
     under_note w y (mid, honest) (next-to, below) =
         let D = w.known in
-        cond_both (eqb (at D y) 255) (walk (set D y (n + 1)) (w.wait ++ (made y (n + 1) ∷ []))) w
-        (λ v. Onward w v × (at v.known y ≤ n + 1))
+        cond_both (is_some (at D y)) w (walk (set D y (Some (n + 1))) (w.wait ++ (made y (n + 1) ∷ [])))
+        (λ v. Onward w v × Near v.known y (n + 1))
         (λ t.
-        let fresh : Fresh D y (n + 1) = record { size = mid.table.size; below = below; new = eqb-true (at D y) 255 t; few = omega arith } in
-        ((under_new w y (mid, honest) next-to fresh, set_lower D y (n + 1) fresh), omega (arith, set_same D y (n + 1) fresh)))
+        let old = reached (at D y) t in
+        (((mid, honest), λ z d is. is), (old.0, old.1, mid.near y old.0 old.1)))
         (λ f.
-        let old = eqb-false (at D y) 255 f in
-        let bound = mid.table.bytes y in
-        let known : at D y < 255 = elim (cases_eq (at D y) 255) [ inl e ↦ absurd (old e) | inr ne ↦ omega arith ] in
-        (((mid, honest), λ z. omega arith), mid.near y known))
+        let fresh : Fresh D y = record { size = mid.table.size; below = below; new = unreached (at D y) f } in
+        ((under_new w y (mid, honest) next-to fresh, set_more D y (n + 1) fresh), (n + 1, set_same D y (n + 1) fresh, omega arith)))
 
     under_note_if : (o : Option ℕ) (w : Walk E) → Under w → IfSome o (Opens links x)
-        → Onward w (noted_if made o (n + 1) w) × IfSome o (λ y. at (noted_if made o (n + 1) w).known y ≤ n + 1)
-    under_note_if None w u c = ((u, λ z. omega arith), tt)
+        → Onward w (noted_if made o (n + 1) w) × IfSome o (λ y. Near (noted_if made o (n + 1) w).known y (n + 1))
+    under_note_if None w u c = ((u, λ z d is. is), tt)
     under_note_if (Some y) w u c = under_note w y u c
 
     pub under_visited : (es : List (Option (ℕ × ℕ))) (w : Walk E) → Under w → AllByRecursion (Across x (Opens links x)) es
-        → Onward w (visited made x (n + 1) es w) × AllByRecursion (Across x (λ y. at (visited made x (n + 1) es w).known y ≤ n + 1)) es
-    under_visited [] w u a = ((u, λ z. omega arith), tt)
+        → Onward w (visited made x (n + 1) es w) × AllByRecursion (Across x (λ y. Near (visited made x (n + 1) es w).known y (n + 1))) es
+    under_visited [] w u a = ((u, λ z d is. is), tt)
     under_visited (e ∷ es) w u (c, a) =
         let v : Walk E = noted_if made (across e x) (n + 1) w in
-        let last : List ℕ = (visited made x (n + 1) es v).known in
+        let last : List (Option ℕ) = (visited made x (n + 1) es v).known in
         let s = under_note_if (across e x) w u c in
         let r = under_visited es v s.0.0 a in (
-          (r.0.0, λ z. omega (arith, s.0.1 z, r.0.1 z)),
-          (
-            cases_weaker (across e x) (λ y. at v.known y ≤ n + 1) (λ y. at last y ≤ n + 1) (λ y k. omega (arith, r.0.1 y)) s.1,
-            r.1,
-          ),
+          (r.0.0, λ z d is. r.0.1 z d (s.0.1 z d is)),
+          (IfSome_then (across e x) s.1 (λ y. near_more v.known last y (n + 1) r.0.1), r.1),
         )
-
--- the other end of an entry leads on from x
-across_linked : (p : ℕ × ℕ) (links : List (ℕ × ℕ)) (x m : ℕ) → (p.0 < m) × (p.1 < m) → Across x (λ y. Linked (p ∷ links) x y × (y < m)) (Some p)
-across_linked p links x m (a, b) =
-    let Leads : Option ℕ → Type 0 = λ o. IfSome o (λ y. Linked (p ∷ links) x y × (y < m)) in
-    cond_both (eqb p.0 x) (Some p.1) (cond (eqb p.1 x) (Some p.0) None) Leads
-    (λ t. (inl (inl (λ i. (eqb-true p.0 x t i, p.1))), b))
-    (λ _. cond_both (eqb p.1 x) (Some p.0) None Leads (λ t. (inr (inl (λ i. (p.0, eqb-true p.1 x t i))), a)) (λ _. tt))
 
 pub opens : (es : List (Option (ℕ × ℕ))) (x : ℕ) → AllByRecursion (Inside 128) es → AllByRecursion (Across x (Opens (present es) x)) es
 opens [] x a = tt
-opens (None ∷ es) x (i, a) = (tt, opens es x a)
-opens (Some p ∷ es) x (i, a) = (
-  across_linked p (present es) x 128 i,
+opens (None ∷ es) x a = (tt, opens es x a.1)
+opens (Some p ∷ es) x a = (
+  grind (arith, nat_tests),
   All-weaker (Across x (Opens (present es) x)) (Across x (Opens (p ∷ present es) x))
-      (λ e c. cases_weaker (across e x) (Opens (present es) x) (Opens (p ∷ present es) x) (λ y j. (linked_more p (present es) x y j.0, j.1)) c)
-      es (opens es x a),
+      (λ e c. IfSome_then (across e x) c (λ y j. (linked_more p (present es) x y j.0, j.1)))
+      es (opens es x a.1),
 )
 
-pub across_below : (e : Option (ℕ × ℕ)) (x y m : ℕ) → Inside m e → Some y ≡ across e x → y < m
-across_below None x y m i q = let z : ◌≡◌ {A = ℕ} 0 1 = cc in absurd (omega arith)
-across_below (Some p) x y m i q =
-    subst (λ o. IfSome o (λ v. v < m)) (sym q)
-    (cases_weaker (across (Some p) x) (λ v. Linked (p ∷ []) x v × (v < m)) (λ v. v < m) (λ v j. j.1) (across_linked p [] x m i))
-
 -- each name next to x is within d, if the other end of each entry is, and x itself
-module _ (D : List ℕ) (x d : ℕ) (self : at D x ≤ d) where
-  abbrev Within : Option ℕ → Type 0
-  Within o = IfSome o (λ y. at D y ≤ d)
-
-  first_end : (p : ℕ × ℕ) (z : ℕ) → p ≡ (x, z) → Within (across (Some p) x) → at D z ≤ d
-  first_end p z e c =
-      let here : p.0 ≡ x = ap (λ (q : ℕ × ℕ). q.0) e in
-      let there : p.1 ≡ z = ap (λ (q : ℕ × ℕ). q.1) e in
-      subst (λ v. at D v ≤ d) there (subst Within (cond-true (eqb p.0 x) (Some p.1) _ (eq-eqb p.0 x here)) c)
-
-  second_end : (p : ℕ × ℕ) (z : ℕ) → p ≡ (z, x) → Within (across (Some p) x) → at D z ≤ d
-  second_end p z e c =
-      let there : p.0 ≡ z = ap (λ (q : ℕ × ℕ). q.0) e in
-      let here : p.1 ≡ x = ap (λ (q : ℕ × ℕ). q.1) e in
-      elim (cases_eq p.0 x) [
-        | inl both ↦ subst (λ v. at D v ≤ d) (sym both ∙ there) self
-        | inr other ↦
-            subst (λ v. at D v ≤ d) there
-            (subst Within (cond-false (eqb p.0 x) (Some p.1) _ (ne_eqb p.0 x other) ∙ cond-true (eqb p.1 x) (Some p.0) None (eq-eqb p.1 x here)) c)
-      ]
-
-  pub all_near : (es : List (Option (ℕ × ℕ))) → AllByRecursion (Across x (λ y. at D y ≤ d)) es → (z : ℕ) → Linked (present es) x z → at D z ≤ d
-  all_near [] a z (inl m) = elim m [ ]
-  all_near [] a z (inr m) = elim m [ ]
-  all_near (None ∷ es) (c, a) z j = all_near es a z j
-  all_near (Some p ∷ es) (c, a) z (inl (inl e)) = first_end p z e c
-  all_near (Some p ∷ es) (c, a) z (inl (inr m)) = all_near es a z (inl m)
-  all_near (Some p ∷ es) (c, a) z (inr (inl e)) = second_end p z e c
-  all_near (Some p ∷ es) (c, a) z (inr (inr m)) = all_near es a z (inr m)
-
--- one entry more is visited
-pub visited_more : {E : Type 0} (made : ℕ → ℕ → E) (x d : ℕ) (es : List (Option (ℕ × ℕ))) (k : ℕ) (o : Option ℕ) (w v : Walk E)
-    → k < length es → o ≡ across (get_or es k None) x → v ≡ noted_if made o d w
-    → visited made x d (drop (k + 1) es) v ≡ visited made x d (drop k es) w
-visited_more made x d es k o w v lt e q =
-    ap (visited made x d (drop (k + 1) es)) (q ∙ ap (λ u. noted_if made u d w) e) ∙ sym (at_drop_more (λ l. visited made x d l w) es k None lt)
+pub all_near : (D : List (Option ℕ)) (x d : ℕ) → Near D x d
+    → (es : List (Option (ℕ × ℕ))) → AllByRecursion (Across x (λ y. Near D y d)) es → (z : ℕ) → Linked (present es) x z → Near D z d
+all_near D x d self [] a z j = grind arith
+all_near D x d self (None ∷ es) a z j = all_near D x d self es a.1 z j
+all_near D x d self (Some p ∷ es) a z j = grind (arith, nat_tests, a.0, all_near D x d self es a.1 z)
 
 pub inside_wider : (m : ℕ) → m ≤ 128 → (es : List (Option (ℕ × ℕ))) → AllByRecursion (Inside m) es → AllByRecursion (Inside 128) es
 inside_wider m few es a =
-    All-weaker (Inside m) (Inside 128)
-    (λ e i. cases_weaker e (λ p. (p.0 < m) × (p.1 < m)) (λ p. (p.0 < 128) × (p.1 < 128)) (λ p h. (omega (arith, h.0), omega (arith, h.1))) i)
-    es a
+    All-weaker (Inside m) (Inside 128) (λ e i. IfSome_then e i (λ p h. (omega (arith, h.0), omega (arith, h.1)))) es a

@@ -1,12 +1,6 @@
 -- Entries, of which some are no link, and what a search of them answers.
-use Rattle.std.specs.Prelude.{ℕ, ◌<◌, Bool, cond, List, [], ◌∷◌, IfSome, Some, None, Option, ◌==◌, nat_lt}
+use Rattle.std.specs.Prelude.{ℕ, ◌<◌, Bool, cond, List, IfSome, Some, None, Option, ◌==◌, nat_lt}
 use Rattle.links.specs.Chains.{fewest}
-
--- the links among the entries
-abbrev pub present : List (Option (ℕ × ℕ)) → List (ℕ × ℕ)
-present [] = []
-present (None ∷ es) = present es
-present (Some p ∷ es) = p ∷ present es
 
 -- both ends of the entry, if it is a link, are below n
 abbrev pub Inside : ℕ → Option (ℕ × ℕ) → Type 0

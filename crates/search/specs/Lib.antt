@@ -5,3 +5,4 @@ pub mod Reached
 pub mod Slots
 pub mod Tables
 pub mod Walks
+pub mod Waves

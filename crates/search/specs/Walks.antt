@@ -1,19 +1,19 @@
 -- What one turn of the search does to the table of distances and to what waits.
-use Rattle.std.specs.Prelude.{ℕ, cond, List, [], ◌∷◌, ◌++◌, Some, None, Option, ◌==◌, slice_set}
+use Rattle.std.specs.Prelude.{ℕ, cond, List, [], ◌∷◌, ◌++◌, Some, None, Option, is_some, slice_set}
 use Rattle.search.specs.Entries.{across}
 use Rattle.search.specs.Tables.{at}
 
 -- the table and what waits
 pub record Walk (E : Type 0) : Type 0 where
-  pub known : List ℕ
+  pub known : List (Option ℕ)
   pub wait : List E
 
-abbrev pub walk : {E : Type 0} → List ℕ → List E → Walk E
+abbrev pub walk : {E : Type 0} → List (Option ℕ) → List E → Walk E
 walk known wait = record { known = known; wait = wait }
 
 -- y is reached by d links, unless it was reached before
 abbrev pub noted : {E : Type 0} → (ℕ → ℕ → E) → ℕ → ℕ → Walk E → Walk E
-noted made y d w = cond (at w.known y == 255) (walk (slice_set w.known y d) (w.wait ++ (made y d ∷ []))) w
+noted made y d w = cond (is_some (at w.known y)) w (walk (slice_set w.known y (Some d)) (w.wait ++ (made y d ∷ [])))
 
 abbrev pub noted_if : {E : Type 0} → (ℕ → ℕ → E) → Option ℕ → ℕ → Walk E → Walk E
 noted_if made None d w = w

@@ -1,13 +1,10 @@
 //! What waits in a search.
 
-ghost use Rattle.std.specs.Prelude.{◌≡◌, ℕ};
+ghost use Rattle.std.specs.Prelude.{◌≡◌, ℕ, Some, Option};
 ghost use Rattle.search.specs.Reached.{reached_at};
 ghost use Rattle.search.specs.Slots.{Small};
 ghost use Rattle.search.specs.Tables.{at};
 ghost use Rattle.std.proofs.Common.{rules};
-
-/// What a table of distances holds for a name that is not reached yet.
-pub const UNKNOWN: u8 = 255;
 
 /// A name that waits, and maybe how far it is. One that does not say how far is looked up in the table of distances.
 pub trait Entry: Copy {
@@ -16,7 +13,7 @@ pub trait Entry: Copy {
     ghost name_of: { Self → ℕ };
 
     /// How far it is, where the table has a distance for its name.
-    ghost distance_of: { Self → ℕ → ℕ };
+    ghost distance_of: { Self → Option ℕ → Option ℕ };
 
     /// What waits for a name that so many links reach.
     fn of(name: u8, distance: u8) -> Self
@@ -27,12 +24,12 @@ pub trait Entry: Copy {
         ensures { result ≡ name_of self.now };
 
     /// How many links reach it, by its own word or by the table's.
-    fn distance(&self, known: &[u8; 128]) -> u8
+    fn distance(&self, known: &[Option<u8>; 128]) -> Option<u8>
         ensures { result ≡ distance_of self.now (at known.now (name_of self.now)) };
 
     ghost named: { (y d : ℕ) → name_of (made y d) ≡ y };
 
-    ghost measured: { (y d : ℕ) → distance_of (made y d) d ≡ d };
+    ghost measured: { (y d : ℕ) → distance_of (made y d) (Some d) ≡ Some d };
 
     /// A search takes the slots for all names at once.
     ghost small: { Small Self.row };
@@ -61,9 +58,8 @@ impl Entry for u8 {
         *self
     }
 
-    fn distance(&self, known: &[u8; 128]) -> u8 {
-        let place = *self as usize;
-        if place < 128 { known[place] } else { UNKNOWN }
+    fn distance(&self, known: &[Option<u8>; 128]) -> Option<u8> {
+        *known.get(*self as usize)?
     }
 }
 
@@ -79,7 +75,7 @@ impl Entry for Reached {
 
     ghost name_of = { λ e. e.name };
 
-    ghost distance_of = { λ e known. e.distance };
+    ghost distance_of = { λ e known. Some e.distance };
 
     ghost named = { Prim.search rules };
 
@@ -95,8 +91,8 @@ impl Entry for Reached {
         self.name
     }
 
-    fn distance(&self, known: &[u8; 128]) -> u8 {
+    fn distance(&self, known: &[Option<u8>; 128]) -> Option<u8> {
         let _ = known;
-        self.distance
+        Some(self.distance)
     }
 }

@@ -3,6 +3,7 @@
 ghost use Rattle.std.specs.Prelude.{◌≡◌, ℕ, Bool};
 
 /// A test of names: the search ends at a name that passes.
+// A trait, and no closure: to call a closure parameter needs a `requires`, and a public call has none.
 pub trait Goal {
     ghost test: { Self → ℕ → Bool };
 

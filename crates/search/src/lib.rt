@@ -8,3 +8,4 @@ pub mod goal;
 pub mod linked;
 pub mod queue;
 pub mod search;
+mod wave;

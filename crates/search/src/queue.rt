@@ -4,10 +4,11 @@ ghost use Rattle.std.specs.Prelude.{◌≡◌, ◌-◌, [], length, nat_lt};
 ghost use Rattle.search.specs.Lines.{first_of, pushed, rest_of};
 ghost use Rattle.search.specs.Queues.{room, waiting};
 
-/// What waits, in slots that another owns, so that waiting takes no memory of its own.
+/// What waits, in slots that another owns.
 /// A slot is used once: each name waits once at the most, and so no slot has to be used again.
 #[derive(Drop)]
 pub struct Queue<'a, E> {
+    // A rule of the project: waiting takes no memory of its own. So the slots are lent, with a place and a count beside.
     slots: &'a mut [E],
     head: usize,
     count: usize,
@@ -27,6 +28,7 @@ impl<'a, E: Copy> Queue<'a, E> {
     }
 
     /// Adds at the end, where there is room, and answers whether there was.
+    #[tactic(auto, using(crate::proofs::Queues::push_waits))]
     pub fn push(&mut self, e: E) -> bool
         ensures had { result ≡ nat_lt 0 (room self.old) }
         ensures added { waiting self.new ≡ pushed (room self.old) (waiting self.old) e }
@@ -42,6 +44,7 @@ impl<'a, E: Copy> Queue<'a, E> {
     }
 
     /// Takes the first that waits. Its slot is not used again, so there is as much room as before.
+    #[tactic(auto, using(crate::proofs::Queues::pop_waits))]
     pub fn pop(&mut self) -> Option<E>
         ensures first { result ≡ first_of (waiting self.old) }
         ensures rest { waiting self.new ≡ rest_of (waiting self.old) }
