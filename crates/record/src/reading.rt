@@ -18,13 +18,13 @@ pub(crate) const MARK: [u8; 2] = [0x4D, 0x54];
 #[derive(Clone, Copy, PartialEq, Eq, Debug)]
 pub enum ReadRefusal {
     /// fewer than seven bytes are left
-    Incomplete,
+    Incomplete = 31,
     /// they do not begin with the mark
-    Unmarked,
+    Unmarked = 32,
     /// no kind has this byte
-    UnknownKind,
+    UnknownKind = 33,
     /// a field that the kind leaves unused is not 0
-    UnusedFieldSet,
+    UnusedFieldSet = 34,
 }
 
 impl ReadRefusal {
@@ -32,12 +32,7 @@ impl ReadRefusal {
     pub fn number(self) -> u8
         ensures { result ≡ number_of self }
     {
-        match self {
-            ReadRefusal::Incomplete => 31,
-            ReadRefusal::Unmarked => 32,
-            ReadRefusal::UnknownKind => 33,
-            ReadRefusal::UnusedFieldSet => 34,
-        }
+        self as u8
     }
 }
 

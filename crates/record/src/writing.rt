@@ -11,7 +11,7 @@ use crate::reading::{LENGTH, MARK};
 #[derive(Clone, Copy, PartialEq, Eq, Debug)]
 pub enum WriteRefusal {
     /// the buffer has fewer than seven bytes
-    BufferTooShort,
+    BufferTooShort = 20,
 }
 
 impl WriteRefusal {
@@ -19,9 +19,7 @@ impl WriteRefusal {
     pub fn number(self) -> u8
         ensures { result ≡ number_of_write self }
     {
-        match self {
-            WriteRefusal::BufferTooShort => 20,
-        }
+        self as u8
     }
 }
 
