@@ -1,3 +1,2 @@
 pub mod Contradiction
 pub mod RoundTrip
-pub mod Rows

@@ -101,23 +101,11 @@ const KINDS: [Row; 7] = [
     },
 ];
 
-/// The first of the rows that has this byte.
-fn row_in(rows: &[Row], byte: u8) -> Option<Row>
-    ensures { result ≡ row_in rows.now byte }
-{
-    for row in rows {
-        if row.byte == byte {
-            return Some(*row);
-        }
-    }
-    None
-}
-
 /// The row of the kind that this byte stands for.
 pub(crate) fn row_of_byte(byte: u8) -> Option<Row>
     ensures { result ≡ row_in kinds byte }
 {
-    row_in(&KINDS, byte)
+    KINDS.iter().copied().find(|row| row.byte == byte)
 }
 
 impl Kind {
@@ -133,21 +121,15 @@ impl Kind {
 pub(crate) fn masked(sorts: [Sort; 4], fields: [u8; 4]) -> [u8; 4]
     ensures { result ≡ masked sorts fields }
 {
-    let mut bytes = [0; 4];
-    for k in 0..4 {
-        bytes[k] = sorts[k].kept(fields[k]);
-    }
-    bytes
+    std::array::from_fn(|k| sorts[k].kept(fields[k]))
 }
 
 /// Is each field that does not count 0?
 pub(crate) fn unused_are_zero(sorts: [Sort; 4], fields: [u8; 4]) -> bool
     ensures { result ≡ unused_are_zero sorts fields }
 {
-    for k in 0..4 {
-        if !sorts[k].allows(fields[k]) {
-            return false;
-        }
-    }
-    true
+    sorts
+        .iter()
+        .zip(&fields)
+        .all(|(sort, field)| sort.allows(*field))
 }
