@@ -1,7 +1,7 @@
 //! The table of kinds: which fields of a record count. The reader and the writer both read it.
 
 ghost use Rattle.std.specs.Prelude.{◌≡◌, length};
-ghost use Rattle.record.specs.Kinds.{allows, kept, kinds, masked, row_in, row_of, unused_are_zero};
+ghost use Rattle.record.specs.Kinds.{allows, counts, kept, kinds, masked, row_in, row_of, unused_are_zero};
 
 use Sort::{Count, ReadingName, SlotName, TableName, Unused};
 
@@ -18,24 +18,25 @@ pub(crate) enum Sort {
 }
 
 impl Sort {
+    /// Does a field of this sort say something?
+    pub(crate) fn counts(self) -> bool
+        ensures { result ≡ counts self }
+    {
+        !matches!(self, Sort::Unused)
+    }
+
     /// What a field of this sort is written as: itself where it counts, else 0.
     fn kept(self, field: u8) -> u8
         ensures { result ≡ kept self field }
     {
-        match self {
-            Sort::Unused => 0,
-            _ => field,
-        }
+        if self.counts() { field } else { 0 }
     }
 
     /// Is the field 0, or one that counts?
     fn allows(self, field: u8) -> bool
         ensures { result ≡ allows self field }
     {
-        match self {
-            Sort::Unused => field == 0,
-            _ => true,
-        }
+        self.counts() || field == 0
     }
 }
 

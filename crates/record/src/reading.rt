@@ -43,16 +43,14 @@ fn read(bytes: &[u8]) -> Result<Option<Record>, ReadRefusal>
     if bytes.is_empty() {
         return Ok(None);
     }
-    if bytes.len() < LENGTH {
+    let [first, second, kind, x, y, z, u, ..] = *bytes else {
         return Err(ReadRefusal::Incomplete);
-    }
-    if bytes[0] != MARK[0] || bytes[1] != MARK[1] {
+    };
+    if [first, second] != MARK {
         return Err(ReadRefusal::Unmarked);
     }
-    let Some(row) = row_of_byte(bytes[2]) else {
-        return Err(ReadRefusal::UnknownKind);
-    };
-    let fields = [bytes[3], bytes[4], bytes[5], bytes[6]];
+    let row = row_of_byte(kind).ok_or(ReadRefusal::UnknownKind)?;
+    let fields = [x, y, z, u];
     if !unused_are_zero(row.sorts, fields) {
         return Err(ReadRefusal::UnusedFieldSet);
     }

@@ -29,8 +29,9 @@ impl Record {
         ensures { result ≡ bytes_of self.now }
     {
         let row = self.kind().row();
+        let [first, second] = MARK;
         let [x, y, z, u] = masked(row.sorts, self.fields());
-        [MARK[0], MARK[1], row.byte, x, y, z, u]
+        [first, second, row.byte, x, y, z, u]
     }
 
     /// Puts the record into the first seven bytes of the buffer, and answers 7.
