@@ -1,2 +1,1 @@
-pub mod Contradiction
 pub mod RoundTrip

@@ -1,6 +1,6 @@
 //! The table of kinds: which fields of a record count. The reader and the writer both read it.
 
-ghost use Rattle.std.specs.Prelude.{◌≡◌, length};
+ghost use Rattle.std.specs.Prelude.{◌≡◌};
 ghost use Rattle.record.specs.Kinds.{allows, counts, kept, kinds, masked, row_in, row_of, unused_are_zero};
 
 use Sort::{Count, ReadingName, SlotName, TableName, Unused};
