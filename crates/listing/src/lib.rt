@@ -9,4 +9,3 @@ pub mod input;
 pub mod line;
 pub mod list;
 pub mod names;
-pub mod room;

@@ -1,6 +1,6 @@
 //! Listing a log.
 
-ghost use Rattle.std.specs.Prelude.{◌≡◌, ◌+◌, ◌/◌, ◌<◌, ◌≤◌, ◌++◌, length, vec_len, vec_capacity, nat_lt};
+ghost use Rattle.std.specs.Prelude.{◌≡◌, ◌+◌, ◌/◌, ◌<◌, ◌≤◌, [], ◌++◌, length, vec_len, vec_capacity, nat_lt};
 ghost use Rattle.record.specs.Records.{advance};
 ghost use Rattle.listing.specs.declared.line.Line.TheVariants.{Records};
 ghost use Rattle.listing.specs.Names.{nothing, sorts_of};
@@ -10,11 +10,17 @@ use crate::class::Sort;
 use crate::classing::list_classes;
 use crate::line::{Fault, Line};
 use crate::names::Names;
-use crate::room::Room;
 use record::reader::Reader;
 
 /// How many bytes a log has at the most.
 pub const LONGEST: usize = 8190;
+
+/// How many lines the longest log has at the most: 1,170 records, a refusal, their count, and the classes of 64 names
+/// of each sort.
+pub const MOST_LINES: usize = 1300;
+
+/// Memory for the lines of one log.
+pub type Room = room::Room<Line, MOST_LINES>;
 
 /// Lists what the reader meets, has the names hear it, and answers whether it was a record.
 fn list_next(lines: &mut Vec<Line>, reader: &mut Reader, names: &mut Names) -> bool
@@ -71,7 +77,7 @@ fn list_end(lines: &mut Vec<Line>, reader: &Reader, names: &Names)
 /// Lists the records of a log, and what they amount to.
 fn list_records(lines: &mut Vec<Line>, log: &[u8])
     requires short { length log.now ≤ 8190 }
-    requires unused { vec_len lines.old ≡ 0 }
+    requires unused { lines.old.items ≡ [] }
     requires room { 1300 ≤ vec_capacity lines.old }
     ensures { lines.new.items ≡ lines_from 1171 log.now 0 nothing }
 {
@@ -88,23 +94,21 @@ fn is_too_long(log: &[u8]) -> bool
     log.len() > LONGEST
 }
 
-impl Room {
-    /// The lines of a log.
-    pub fn list(self, log: &[u8]) -> Vec<Line>
-        ensures lines { result.items ≡ lines_of log.now }
-        ensures means { ListsRecords }
-    {
-        let Room { mut lines } = self;
-        if is_too_long(log) {
-            lines.push_reserved(Line::Refused {
-                number: 0,
-                fault: Fault::LogTooLong,
-                offset: 0,
-            });
-            lines.push_reserved(Line::Records(0));
-        } else {
-            list_records(&mut lines, log);
-        }
-        lines
+/// The lines of a log.
+pub fn list(room: Room, log: &[u8]) -> Vec<Line>
+    ensures lines { result.items ≡ lines_of log.now }
+    ensures means { ListsRecords }
+{
+    let mut lines = room.into_list();
+    if is_too_long(log) {
+        lines.push_reserved(Line::Refused {
+            number: 0,
+            fault: Fault::LogTooLong,
+            offset: 0,
+        });
+        lines.push_reserved(Line::Records(0));
+    } else {
+        list_records(&mut lines, log);
     }
+    lines
 }

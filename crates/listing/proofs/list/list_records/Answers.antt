@@ -1,5 +1,4 @@
-use Rattle.std.proofs.Common.{◌≡◌, ℕ, suc, ◌+◌, ◌-◌, ◌/◌, ◌≤◌, [], ◌++◌, length, vec_items, sym, ap, ◌∙◌, arith}
-use Rattle.std.proofs.lemmas.List.{nil_from_length}
+use Rattle.std.proofs.Common.{◌≡◌, ℕ, suc, ◌+◌, ◌-◌, ◌/◌, ◌≤◌, ◌++◌, length, vec_items, sym, ap, ◌∙◌, arith}
 use Rattle.listing.specs.Lines.{end_lines, lines_from, met}
 use Rattle.listing.specs.Names.{Sorts, sorts_of}
 use Rattle.listing.proofs.Steps.{advance_off, advance_on, lines_end, lines_more, one_more, sorts_off}
@@ -7,9 +6,9 @@ use Rattle.listing.proofs.list.list_records.Goals as goal
 
 pub loop-init : goal.loop-init
 loop-init c =
-    let none : vec_items c.args.lines.now ≡ [] = nil_from_length _ (omega (arith, c.args.lines.now.ok.0)) in
+    let none = c.requires.unused in
     let new = c.new-reader.ensures in
-    (new.log, c.requires.room, (0, new.offset, omega arith, λ i. none i ++ lines_from 1171 (new.log i) (new.offset i) (c.new-names.ensures i)))
+    (new.log, c.requires.room, (0, new.offset, omega (arith, c.args.lines.now.ok.0, ap length none), λ i. none i ++ lines_from 1171 (new.log i) (new.offset i) (c.new-names.ensures i)))
 
 pub list_next-requires : goal.list_next-requires
 list_next-requires c = omega (arith, c.loop.reader.within, ap length c.loop.invariant.0)
