@@ -36,7 +36,7 @@ fn list_next(lines: &mut Vec<Line>, reader: &mut Reader, names: &mut Names) -> b
     let offset = reader.offset();
     match reader.next() {
         Ok(Some(record)) => {
-            let refused = names.hear(&record);
+            let refused = names.hear(&record).err();
             lines.push_reserved(Line::Read {
                 number,
                 offset,
