@@ -9,3 +9,4 @@ pub mod input;
 pub mod line;
 pub mod list;
 pub mod names;
+mod under_way;
