@@ -1,4 +1,4 @@
-use Rattle.std.proofs.Common.{◌≡◌, ◌+◌, ◌++◌, [], ◌∷◌, length, drop, Some, Ok, sym, ap, ◌∙◌, arith}
+use Rattle.std.proofs.Common.{◌≡◌, ◌+◌, ◌++◌, [], ◌∷◌, drop, Some, Ok, sym, ap, ◌∙◌, arith}
 use Rattle.std.specs.Result.{result_err}
 use Rattle.record.specs.Records.{advance, read_one}
 use Rattle.listing.specs.declared.line.Line.TheVariants.{Read}
@@ -6,8 +6,8 @@ use Rattle.listing.specs.Names.{refusal_of, sorts_of}
 use Rattle.listing.proofs.Steps.{one_more, told}
 use Rattle.listing.proofs.under_way.Listing.list_next.Goals as goal
 
-pub invariant_of-self-2 : goal.invariant_of-self-2
-invariant_of-self-2 c =
+pub invariant_of-self-2-clause-whole : goal.invariant_of-self-2-clause-whole
+invariant_of-self-2-clause-whole c =
     let at = c.args.self.now in
     let x = c.in-Some.record in
     let step = c.in_ok-record.ensures.step in
@@ -15,9 +15,4 @@ invariant_of-self-2 c =
     let offset : c.next.new.self.offset ≡ at.reader.offset + 7 = ap (λ p. p.1) step ∙ ap (λ answer. at.reader.offset + advance answer) read in
     let refused : c.err-refused.result ≡ refusal_of (sorts_of at.names) x = c.err-refused.ensures.value ∙ ap result_err c.hear.ensures.answer ∙ told (refusal_of (sorts_of at.names) x) in
     let listed = c.push_reserved.ensures.items ∙ (λ i. at.lines.items ++ (Read (c.number-number.ensures i) (c.offset-offset.ensures i) x (refused i) ∷ [])) in
-    record {
-      enough = omega (arith, c.push_reserved.ensures.capacity, at.enough);
-      short = omega (arith, ap length c.next.ensures.log, at.short);
-      few = omega (arith, offset, c.push_reserved.ensures.len, at.few);
-      whole = one_more _ _ _ _ _ _ _ _ x read c.next.ensures.log offset c.hear.ensures.holds listed (omega (arith, at.reader.within, at.short)) at.whole;
-    }
+    one_more _ _ _ _ _ _ _ _ x read c.next.ensures.log offset c.hear.ensures.holds listed (omega (arith, at.reader.within, at.short)) at.whole
