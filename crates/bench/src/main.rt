@@ -7,6 +7,7 @@
 use anyhow::anyhow;
 use arrangement::{Arrangement, Refusal};
 use paired::store::Paired;
+use search::entry::Reached;
 use std::io;
 use std::time::{Duration, Instant};
 use timing::{each, is_timed};
@@ -100,7 +101,7 @@ fn main(rt: HostRuntime) -> anyhow::Result<()> {
     };
     let same = |i, j| u8::from(held.same(i, j));
     let why = |i, j| found(held.why(i, j));
-    let why_measured = |i, j| found(held.why_measured(i, j));
+    let why_measured = |i, j| found(held.why_by::<Reached>(i, j));
     print_sums(&rt, "same", &same, 4096)?;
     print_sums(&rt, "why", &why, 4096)?;
     print_sums(&rt, "why_measured", &why_measured, 4096)?;

@@ -3,12 +3,12 @@
 #![tactic(auto)]
 
 use listing::input::read_log;
-use listing::room::Room;
+use listing::list::{Room, list};
 
 fn main(rt: HostRuntime) -> anyhow::Result<()> {
     let log = read_log(rt.alloc(), rt.stdin())?;
     let room = Room::new(rt.alloc())?;
-    for line in room.list(log.as_slice()) {
+    for line in list(room, log.as_slice()) {
         println!(rt; "{line}")?;
     }
     Ok(())

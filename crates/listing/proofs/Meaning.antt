@@ -6,7 +6,6 @@ use Rattle.std.proofs.lemmas.Bool.{cond-false, le-ltb}
 use Rattle.record.specs.declared.entry.Record.{Record}
 use Rattle.record.specs.declared.reading.ReadRefusal.{ReadRefusal}
 use Rattle.record.specs.Records.{bytes_of, read_one}
-use Rattle.record.proofs.Contradiction.{contradiction}
 use Rattle.record.proofs.RoundTrip.{back, none_left, only, seven_bytes}
 use Rattle.listing.specs.declared.line.Fault.TheVariants.{LogTooLong}
 use Rattle.listing.specs.declared.line.Line.{Line}
@@ -50,25 +49,25 @@ forth (x ∷ xs) (suc most) k log sorts rest few =
 
 back_from : (xs : List Record) (most k : ℕ) (log : List ℕ) (sorts : Sorts) → lines_from most log (7 * k) sorts ≡ numbered sorts k xs → drop (7 * k) log ≡ log_of xs
 unfolding lines_from
-back_from [] zero k log sorts e = contradiction (cc)
-back_from (x ∷ xs) zero k log sorts e = contradiction (cc)
+back_from [] zero k log sorts e = absurd (cc)
+back_from (x ∷ xs) zero k log sorts e = absurd (cc)
 back_from xs (suc most) k log sorts e = go (read_one (drop (7 * k) log)) refl xs e (λ ys. back_from ys most (k + 1) log)
   where
     go : (answer : Answer) → read_one (drop (7 * k) log) ≡ answer → (ys : List Record) → lines most k log sorts answer ≡ numbered sorts k ys → ((zs : List Record) (then : Sorts) → lines_from most log (7 * (k + 1)) then ≡ numbered then (k + 1) zs → drop (7 * (k + 1)) log ≡ log_of zs) → drop (7 * k) log ≡ log_of ys
-    go (Ok (Some x)) is [] same later = contradiction (cc)
+    go (Ok (Some x)) is [] same later = absurd (cc)
     go (Ok (Some x)) is (y ∷ ys) same later =
         let first : x ≡ y = cc in
         let others : lines_from most log (7 * k + 7) (sorts_after sorts x) ≡ numbered (sorts_after sorts y) (k + 1) ys = cc in
         let rest = later ys (sorts_after sorts y) ((λ i. lines_from most log (sym (next k) i) (sorts_after sorts (sym first i))) ∙ others) in
         sym (take-append-drop 7 (drop (7 * k) log)) ∙ (λ i. ((only (drop (7 * k) log) x is).1 ∙ ap bytes_of first) i ++ (drop-drop 7 (7 * k) log ∙ ap (λ n. drop n log) (next k) ∙ rest) i)
     go (Ok None) is [] same later = none_left (drop (7 * k) log) is
-    go (Ok None) is (y ∷ ys) same later = contradiction (cc)
-    go (Err refusal) is [] same later = contradiction (cc)
-    go (Err refusal) is (y ∷ ys) same later = contradiction (cc)
+    go (Ok None) is (y ∷ ys) same later = absurd (cc)
+    go (Err refusal) is [] same later = absurd (cc)
+    go (Err refusal) is (y ∷ ys) same later = absurd (cc)
 
 back_all : (too_long : Bool) (log : List ℕ) (xs : List Record) → cond too_long (Refused 0 LogTooLong 0 ∷ Records 0 ∷ []) (lines_from 1171 log 0 nothing) ≡ numbered nothing 0 xs → log ≡ log_of xs
-back_all true log [] e = contradiction (cc)
-back_all true log (x ∷ xs) e = contradiction (cc)
+back_all true log [] e = absurd (cc)
+back_all true log (x ∷ xs) e = absurd (cc)
 back_all false log xs e = back_from xs 1171 0 log nothing e
 
 log_length : (xs : List Record) → length (log_of xs) ≡ 7 * length xs

@@ -1,60 +1,71 @@
--- One turn of a listing.
-use Rattle.std.proofs.Common.{◌≡◌, ℕ, suc, ◌+◌, ◌/◌, ◌≤◌, true, false, cond, List, ◌++◌, length, drop, Some, None, Ok, Err, Option, Result, sym, refl, ap, ◌∙◌, append_assoc, arith}
-use Rattle.std.proofs.lemmas.List.{length-append}
-use Rattle.std.proofs.lemmas.Bool.{cond-false, cond-true, true≢false}
+-- A turn of a listing, and its end.
+use Rattle.std.proofs.Common.{◌≡◌, ℕ, suc, ◌+◌, ◌-◌, ◌/◌, ◌≤◌, cond, List, [], ◌∷◌, ◌++◌, drop, Some, None, Ok, Err, Option, Result, sym, refl, ap, ◌∙◌, append_assoc, arith}
+use Rattle.std.specs.Result.{result_err}
+use Rattle.arrangement.specs.declared.refusal.Refusal.{Refusal}
+use Rattle.paired.specs.Pairings.{answer}
 use Rattle.record.specs.declared.entry.Record.{Record}
 use Rattle.record.specs.declared.reading.ReadRefusal.{ReadRefusal}
 use Rattle.record.specs.Records.{advance, read_one}
+use Rattle.listing.specs.declared.line.Fault.{Fault}
 use Rattle.listing.specs.declared.line.Line.{Line}
-use Rattle.listing.specs.Lines.{end_lines, goes_on, line_at, lines_from, sorts_then}
-use Rattle.listing.specs.Names.{Sorts}
+use Rattle.listing.specs.declared.line.Line.TheVariants.{Read}
+use Rattle.listing.specs.Lines.{end_lines, ending, goes_on, heard, line_at, lines_from, sorts_then, stopped}
+use Rattle.listing.specs.Names.{Sorts, nothing, refusal_of, sorts_after}
+
+-- why a call was refused, if it was
+pub told : (refusal : Option Refusal) → result_err (answer refusal (tt {0})) ≡ refusal
+told None = refl
+told (Some refusal) = refl
 
 abbrev Answer : Type 0
 Answer = Result (Option Record) ReadRefusal
 
--- a reader that goes on has read seven bytes, and one that does not has read none
-pub advance_on : (answer : Answer) → goes_on answer ≡ true → advance answer ≡ 7
-advance_on (Ok (Some x)) e = refl
-advance_on (Ok None) e = absurd (true≢false (sym e))
-advance_on (Err refusal) e = absurd (true≢false (sym e))
+-- the lines from an offset on, by what is read there
+module _ (most : ℕ) (log : List ℕ) (offset : ℕ) (sorts : Sorts) where
+  abbrev lines : Answer → List Line
+  lines answer = line_at sorts answer offset ++ cond (goes_on answer) (lines_from most log (offset + 7) (sorts_then sorts answer)) (end_lines (offset / 7) sorts)
 
-pub advance_off : (answer : Answer) → goes_on answer ≡ false → advance answer ≡ 0
-advance_off (Ok (Some x)) e = absurd (true≢false e)
-advance_off (Ok None) e = refl
-advance_off (Err refusal) e = refl
-
-one_line : (sorts : Sorts) (answer : Answer) (offset : ℕ) → length (line_at sorts answer offset) ≤ 1
-one_line sorts (Ok (Some x)) offset = omega arith
-one_line sorts (Ok None) offset = omega arith
-one_line sorts (Err refusal) offset = omega arith
-
-pub one_more : (before after : List Line) (sorts : Sorts) (answer : Answer) (offset : ℕ) → after ≡ before ++ line_at sorts answer offset → length after ≤ length before + 1
-one_more before after sorts answer offset e = omega (arith, ap length e ∙ length-append before (line_at sorts answer offset), one_line sorts answer offset)
-
--- the lines from an offset on, where a record is read there and where none is
-module _ (log : List ℕ) (offset most : ℕ) (sorts : Sorts) (items : List Line) where
-  abbrev here : Answer
-  here = read_one (drop offset log)
-
-  -- the lines that follow that of what is read there
-  abbrev follow : List Line
-  follow = cond (goes_on here) (lines_from most log (offset + 7) (sorts_then sorts here)) (end_lines (offset / 7) sorts)
-
-  turn : lines_from (suc most) log offset sorts ≡ line_at sorts here offset ++ follow
+  turn : lines_from (suc most) log offset sorts ≡ lines (read_one (drop offset log))
   unfolding lines_from
   turn = refl
 
-  after : (rest : List Line) → follow ≡ rest → (items ++ line_at sorts here offset) ++ rest ≡ items ++ lines_from (suc most) log offset sorts
-  after rest is = append_assoc items _ _ ∙ ap (λ lines. items ++ lines) (sym (turn ∙ ap (λ lines. line_at sorts here offset ++ lines) is))
+  ends_at : (answer : Answer) (read : Result (Unit {0}) Fault) → heard answer ≡ stopped read → lines answer ≡ ending read offset sorts
+  ends_at (Ok (Some x)) (Ok done) e = absurd (cc)
+  ends_at (Ok (Some x)) (Err fault) e = absurd (cc)
+  ends_at (Ok None) (Ok done) e = refl
+  ends_at (Ok None) (Err fault) e = absurd (cc)
+  ends_at (Err refusal) (Ok done) e = absurd (cc)
+  ends_at (Err refusal) (Err fault) e = cc
 
-  pub lines_more : goes_on here ≡ true → (items ++ line_at sorts here offset) ++ lines_from most log (offset + 7) (sorts_then sorts here) ≡ items ++ lines_from (suc most) log offset sorts
-  lines_more on = after _ (cond-true _ _ _ on)
+-- a reader that refused what is there refuses it again
+stays : (answer : Answer) (fault : Fault) → heard answer ≡ Err fault → advance answer ≡ 0
+stays (Ok (Some x)) fault e = absurd (cc)
+stays (Ok None) fault e = refl
+stays (Err refusal) fault e = refl
 
-  pub lines_end : goes_on here ≡ false → (items ++ line_at sorts here offset) ++ end_lines (offset / 7) sorts ≡ items ++ lines_from (suc most) log offset sorts
-  lines_end off = after _ (cond-false _ _ _ off)
+pub refused_again : (log then_log : List ℕ) (offset then_offset : ℕ) (fault : Fault) → heard (read_one (drop offset log)) ≡ Err fault → then_log ≡ log → then_offset ≡ offset + advance (read_one (drop offset log)) → heard (read_one (drop then_offset then_log)) ≡ Err fault
+refused_again log then_log offset then_offset fault refused logs offsets =
+    let same : then_offset ≡ offset = omega (arith, offsets, stays (read_one (drop offset log)) fault refused) in
+    (λ i. heard (read_one (drop (same i) (logs i)))) ∙ refused
 
--- a reader that does not go on leaves the names as they were
-pub sorts_off : (sorts : Sorts) (answer : Answer) → goes_on answer ≡ false → sorts_then sorts answer ≡ sorts
-sorts_off sorts (Ok (Some x)) e = absurd (true≢false e)
-sorts_off sorts (Ok None) e = refl
-sorts_off sorts (Err refusal) e = refl
+-- a record is listed: its line and those of the rest of the log are the lines from its offset on
+pub one_more : (log then_log : List ℕ) (offset then_offset : ℕ) (sorts then_sorts : Sorts) (items then_items : List Line) (x : Record) → read_one (drop offset log) ≡ Ok (Some x) → then_log ≡ log → then_offset ≡ offset + 7 → then_sorts ≡ sorts_after sorts x → then_items ≡ items ++ (Read (offset / 7 + 1) offset x (refusal_of sorts x) ∷ []) → offset ≤ 8190 → items ++ lines_from (1171 - offset / 7) log offset sorts ≡ lines_from 1171 log 0 nothing → then_items ++ lines_from (1171 - then_offset / 7) then_log then_offset then_sorts ≡ lines_from 1171 then_log 0 nothing
+one_more log then_log offset then_offset sorts then_sorts items then_items x read logs offsets names listed short whole =
+    let most : ℕ = 1170 - offset / 7 in
+    let here : 1171 - offset / 7 ≡ suc most = omega arith in
+    let there : 1171 - then_offset / 7 ≡ most = omega arith in
+    let line : List Line = Read (offset / 7 + 1) offset x (refusal_of sorts x) ∷ [] in
+    (λ i. listed i ++ lines_from (there i) (logs i) (offsets i) (names i))
+    ∙ append_assoc items line _
+    ∙ ap (λ lines. items ++ lines) (sym (turn most log offset sorts ∙ ap (lines most log offset sorts) read))
+    ∙ ap (λ n. items ++ lines_from n log offset sorts) (sym here)
+    ∙ whole
+    ∙ ap (λ l. lines_from 1171 l 0 nothing) (sym logs)
+
+-- the reader stops: with its end the lines so far are those of the whole log
+pub finished : (log : List ℕ) (offset : ℕ) (sorts : Sorts) (items whole : List Line) (read : Result (Unit {0}) Fault) → heard (read_one (drop offset log)) ≡ stopped read → offset ≤ 8190 → items ++ lines_from (1171 - offset / 7) log offset sorts ≡ whole → items ++ ending read offset sorts ≡ whole
+finished log offset sorts items whole read stops short is =
+    let most : ℕ = 1170 - offset / 7 in
+    let here : 1171 - offset / 7 ≡ suc most = omega arith in
+    let ends = turn most log offset sorts ∙ ends_at most log offset sorts (read_one (drop offset log)) read stops in
+    ap (λ lines. items ++ lines) (sym ends) ∙ ap (λ n. items ++ lines_from n log offset sorts) (sym here) ∙ is

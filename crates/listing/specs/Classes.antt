@@ -1,7 +1,6 @@
 -- The classes of two names and more, and how they are printed.
 use Rattle.std.specs.Prelude.{ℕ, ◌+◌, Bool, false, cond, not, ◌&&◌, List, [], ◌++◌, map, take, drop, codes, decimal, slice_index_or}
-use Rattle.std.specs.List.{range_with_len, flat_map}
-use Rattle.links.specs.Lists.{any_of}
+use Rattle.std.specs.List.{range_with_len, flat_map, list_any}
 use Rattle.arrangement.specs.Meaning.{Meaning, same}
 use Rattle.listing.specs.declared.class.Class.{Class}
 use Rattle.listing.specs.declared.class.Sort.{Sort}
@@ -12,7 +11,7 @@ unfoldable pub members_of : Meaning → ℕ → List Bool
 members_of m s = map (same m s) (range_with_len 0 64)
 
 abbrev pub any_true : List Bool → Bool
-any_true = any_of (λ b. b)
+any_true = list_any (λ b. b)
 
 -- is s the lowest of these members, and not the only one?
 abbrev pub leads : List Bool → ℕ → Bool

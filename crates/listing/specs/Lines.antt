@@ -70,6 +70,22 @@ class_lines sort m = flat_map (class_line sort m) (range_with_len 0 m.size)
 abbrev pub end_lines : ℕ → Sorts → List Line
 end_lines k sorts = Records k ∷ (class_lines Slots (meaning_of sorts.slots) ++ class_lines Readings (meaning_of sorts.readings))
 
+-- the answer of a turn: whether a record was read, or why the reader refused it
+abbrev pub heard : Result (Option Record) ReadRefusal → Result Bool Fault
+heard (Ok (Some x)) = Ok true
+heard (Ok None) = Ok false
+heard (Err refusal) = Err (FromReader refusal)
+
+-- the answer of the last turn
+abbrev pub stopped : Result (Unit {0}) Fault → Result Bool Fault
+stopped (Ok done) = Ok false
+stopped (Err fault) = Err fault
+
+-- the lines that follow the records, where the reader stopped at an offset
+abbrev pub ending : Result (Unit {0}) Fault → ℕ → Sorts → List Line
+ending (Ok done) offset sorts = end_lines (offset / 7) sorts
+ending (Err fault) offset sorts = Refused (offset / 7 + 1) fault offset ∷ end_lines (offset / 7) sorts
+
 -- the lines from an offset on, of at most so many records
 unfoldable pub lines_from : ℕ → List ℕ → ℕ → Sorts → List Line
 lines_from zero log offset sorts = []

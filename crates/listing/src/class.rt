@@ -32,14 +32,21 @@ pub struct Class {
 
 /// A name as it is printed where it belongs to the class, and nothing where it does not.
 #[derive(Clone, Copy)]
-struct Member(bool, usize);
+struct Member {
+    name: usize,
+    belongs: bool,
+}
 
 impl fmt::Display for Member {
-    ghost output = { λ member. Some (shown_member member.0 member.1) };
+    ghost output = { λ member. Some (shown_member member.belongs member.name) };
 
     fn fmt<W: fmt::Write>(&self, f: &mut fmt::Formatter<W>) -> fmt::Result {
-        let name = self.1;
-        if self.0 { write!(f, " {name}") } else { Ok(()) }
+        let Member { name, belongs } = *self;
+        if belongs {
+            write!(f, " {name}")
+        } else {
+            Ok(())
+        }
     }
 }
 
@@ -49,8 +56,8 @@ impl fmt::Display for Class {
     fn fmt<W: fmt::Write>(&self, f: &mut fmt::Formatter<W>) -> fmt::Result {
         let sort = self.sort;
         write!(f, "{sort}")?;
-        for (name, belongs) in self.members.iter().enumerate() {
-            let member = Member(*belongs, name);
+        for (name, &belongs) in self.members.iter().enumerate() {
+            let member = Member { name, belongs };
             write!(f, "{member}")?;
         }
         Ok(())

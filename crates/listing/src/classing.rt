@@ -1,7 +1,7 @@
 //! Finding the classes of two names and more.
 
 ghost use Rattle.std.specs.Prelude.{◌≡◌, ◌+◌, ◌<◌, ◌≤◌, ◌++◌, length, vec_len, vec_capacity};
-ghost use Rattle.listing.specs.Classes.{any_true, leads, members_of};
+ghost use Rattle.listing.specs.Classes.{leads, members_of};
 ghost use Rattle.listing.specs.Lines.{class_line, class_lines};
 ghost use Rattle.paired.specs.Held.{pairings_of};
 ghost use Rattle.paired.specs.Pairings.{meaning_of};
@@ -11,35 +11,20 @@ use crate::line::Line;
 use arrangement::Arrangement;
 use paired::store::Paired;
 
-/// Is one of the flags set?
-fn any(flags: &[bool]) -> bool
-    ensures { result ≡ any_true flags.now }
-{
-    for flag in flags {
-        if *flag {
-            return true;
-        }
-    }
-    false
-}
-
 /// Is the name the lowest of these members, and not the only one?
 fn leads(members: &[bool], name: usize) -> bool
     requires { name < length members.now }
     ensures { result ≡ leads members.now name }
 {
-    !any(&members[0..name]) && any(&members[name + 1..])
+    !members[..name].contains(&true) && members[name + 1..].contains(&true)
 }
 
 /// For each name whether it is the same as this one.
+#[tactic(auto, unfolding(crate::specs::Classes::members_of))]
 fn members(names: &Paired, name: u8) -> [bool; 64]
     ensures { result ≡ members_of (meaning_of (pairings_of names.now)) name }
 {
-    let mut members = [false; 64];
-    for other in 0..64u8 {
-        members[other as usize] = names.same(name, other);
-    }
-    members
+    std::array::from_fn(|other| names.same(name, other as u8))
 }
 
 /// Lists the class whose lowest name this is, if it has two names and more.

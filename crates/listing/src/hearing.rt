@@ -2,7 +2,7 @@
 
 ghost use Rattle.std.specs.Prelude.{◌≡◌};
 ghost use Rattle.listing.specs.Names.{nothing, opened, or_else, refusal_of, sorts_after, sorts_of};
-ghost use Rattle.paired.specs.Pairings.{count_questions, left};
+ghost use Rattle.paired.specs.Pairings.{answer, count_questions, left};
 
 use crate::names::Names;
 use arrangement::Refusal;
@@ -20,22 +20,21 @@ impl Names {
         }
     }
 
-    /// Sets both counts, or neither.
-    fn open(&mut self, slots: u8, readings: u8) -> Option<Refusal>
-        ensures answer { result ≡ or_else (count_questions slots) (count_questions readings) }
+    /// Sets both counts, or neither: new names take the place of the old ones once both are set.
+    fn open(&mut self, slots: u8, readings: u8) -> Result<(), Refusal>
+        ensures answer { result ≡ answer (or_else (count_questions slots) (count_questions readings)) tt }
         ensures holds { sorts_of self.new ≡ left (or_else (count_questions slots) (count_questions readings)) (opened slots readings) (sorts_of self.old) }
     {
-        if slots > 64 || readings > 64 {
-            return Some(Refusal::TooManyNames);
-        }
-        let _ = self.slots.set_count(slots);
-        let _ = self.readings.set_count(readings);
-        None
+        let mut opened = Names::new();
+        opened.slots.set_count(slots)?;
+        opened.readings.set_count(readings)?;
+        *self = opened;
+        Ok(())
     }
 
-    /// Opens or pairs as the record says, and answers why that is refused, if it is.
-    pub fn hear(&mut self, record: &Record) -> Option<Refusal>
-        ensures answer { result ≡ refusal_of (sorts_of self.old) «record».now }
+    /// Opens or pairs as the record says, or answers why that is refused.
+    pub fn hear(&mut self, record: &Record) -> Result<(), Refusal>
+        ensures answer { result ≡ answer (refusal_of (sorts_of self.old) «record».now) tt }
         ensures holds { sorts_of self.new ≡ sorts_after (sorts_of self.old) «record».now }
     {
         match *record {
@@ -44,9 +43,9 @@ impl Names {
                 readings,
                 ..
             } => self.open(slots, readings),
-            Record::PairSlots { i, j } => self.slots.pair(i.0, j.0).err(),
-            Record::PairReadings { v, w } => self.readings.pair(v.0, w.0).err(),
-            Record::State(_) => None,
+            Record::PairSlots { i, j } => self.slots.pair(i.0, j.0),
+            Record::PairReadings { v, w } => self.readings.pair(v.0, w.0),
+            Record::State(_) => Ok(()),
         }
     }
 }

@@ -9,4 +9,4 @@ pub mod input;
 pub mod line;
 pub mod list;
 pub mod names;
-pub mod room;
+mod under_way;

@@ -1,84 +1,94 @@
 //! Listing a log.
 
-ghost use Rattle.std.specs.Prelude.{◌≡◌, ◌+◌, ◌/◌, ◌<◌, ◌≤◌, ◌++◌, length, vec_len, vec_capacity, nat_lt};
+ghost use Rattle.std.specs.Prelude.{◌≡◌, ◌+◌, ◌≤◌, [], ◌++◌, length, vec_capacity, nat_lt};
 ghost use Rattle.record.specs.Records.{advance};
-ghost use Rattle.listing.specs.declared.line.Line.TheVariants.{Records};
-ghost use Rattle.listing.specs.Names.{nothing, sorts_of};
-ghost use Rattle.listing.specs.Lines.{ListsRecords, end_lines, goes_on, line_at, lines_from, lines_of, met, sorts_then};
+ghost use Rattle.listing.specs.Names.{sorts_of};
+ghost use Rattle.listing.specs.Lines.{ListsRecords, ending, heard, lines_of, met, stopped};
 
 use crate::class::Sort;
 use crate::classing::list_classes;
 use crate::line::{Fault, Line};
 use crate::names::Names;
-use crate::room::Room;
+use crate::under_way::Listing;
 use record::reader::Reader;
 
 /// How many bytes a log has at the most.
 pub const LONGEST: usize = 8190;
 
-/// Lists what the reader meets, has the names hear it, and answers whether it was a record.
-fn list_next(lines: &mut Vec<Line>, reader: &mut Reader, names: &mut Names) -> bool
-    requires { vec_len lines.old < vec_capacity lines.old }
-    ensures answer { result ≡ goes_on (met reader.old) }
-    ensures listed { lines.new.items ≡ lines.old.items ++ line_at (sorts_of names.old) (met reader.old) reader.old.offset }
-    ensures offset { reader.new.offset ≡ reader.old.offset + advance (met reader.old) }
-    ensures log { reader.new.log.now ≡ reader.old.log.now }
-    ensures names { sorts_of names.new ≡ sorts_then (sorts_of names.old) (met reader.old) }
-    ensures room { vec_capacity lines.new ≡ vec_capacity lines.old }
-{
-    let number = reader.number();
-    let offset = reader.offset();
-    match reader.next() {
-        Ok(Some(record)) => {
-            let refused = names.hear(&record);
-            lines.push_reserved(Line::Read {
-                number,
-                offset,
-                record,
-                refused,
-            });
-            true
-        }
-        Ok(None) => false,
-        Err(refusal) => {
-            lines.push_reserved(Line::Refused {
-                number,
-                fault: refusal.into(),
-                offset,
-            });
-            false
+/// How many lines the longest log has at the most: 1,170 records, a refusal, their count, and the classes of 64 names
+/// of each sort.
+pub const MOST_LINES: usize = 1300;
+
+/// Memory for the lines of one log.
+pub type Room = room::Room<Line, MOST_LINES>;
+
+impl<'a> Listing<'a> {
+    /// Before the first record.
+    fn new(lines: Vec<Line>, log: &'a [u8]) -> Listing<'a>
+        requires empty { lines.items ≡ [] }
+        requires enough { 1300 ≤ vec_capacity lines }
+        requires short { length log.now ≤ 8190 }
+        ensures { result.reader.log.now ≡ log.now }
+    {
+        Listing {
+            lines,
+            reader: Reader::new(log),
+            names: Names::new(),
         }
     }
-}
 
-/// How many records were read.
-fn count_line(reader: &Reader) -> Line
-    ensures { result ≡ Records (reader.now.offset / 7) }
-{
-    Line::Records(reader.number() - 1)
-}
+    /// Lists the next record, if there is one, has the names hear it, and answers whether there was one.
+    fn list_next(&mut self) -> Result<bool, Fault>
+        ensures answer { result ≡ heard (met self.old.reader) }
+        ensures offset { self.new.reader.offset ≡ self.old.reader.offset + advance (met self.old.reader) }
+        ensures log { self.new.reader.log.now ≡ self.old.reader.log.now }
+    {
+        let number = self.reader.number();
+        let offset = self.reader.offset();
+        let Some(record) = self.reader.next()? else {
+            return Ok(false);
+        };
+        let refused = self.names.hear(&record).err();
+        self.lines.push_reserved(Line::Read {
+            number,
+            offset,
+            record,
+            refused,
+        });
+        Ok(true)
+    }
 
-/// Lists how many records were read, and which names are the same.
-fn list_end(lines: &mut Vec<Line>, reader: &Reader, names: &Names)
-    requires { vec_len lines.old + 129 ≤ vec_capacity lines.old }
-    ensures { lines.new.items ≡ lines.old.items ++ end_lines (reader.now.offset / 7) (sorts_of names.now) }
-{
-    lines.push_reserved(count_line(reader));
-    list_classes(&names.slots, Sort::Slots, lines);
-    list_classes(&names.readings, Sort::Readings, lines);
-}
+    /// Lists the records, to the end of the log or up to what the reader refuses.
+    fn list_records(&mut self) -> Result<(), Fault>
+        ensures stops { heard (met self.new.reader) ≡ stopped result }
+        ensures log { self.new.reader.log.now ≡ self.old.reader.log.now }
+    {
+        while self.list_next()? {}
+        Ok(())
+    }
 
-/// Lists the records of a log, and what they amount to.
-fn list_records(lines: &mut Vec<Line>, log: &[u8])
-    requires short { length log.now ≤ 8190 }
-    requires unused { vec_len lines.old ≡ 0 }
-    requires room { 1300 ≤ vec_capacity lines.old }
-    ensures { lines.new.items ≡ lines_from 1171 log.now 0 nothing }
-{
-    let mut reader = Reader::new(log);
-    let mut names = Names::new();
-    while list_next(lines, &mut reader, &mut names) {}
-    list_end(lines, &reader, &names);
+    /// Lists what the reader refused, how many records were read, and which names are the same.
+    fn finish(self, read: Result<(), Fault>) -> Vec<Line>
+        ensures { result.items ≡ self.entry.lines.items ++ ending read self.entry.reader.offset (sorts_of self.entry.names) }
+    {
+        let Listing {
+            mut lines,
+            reader,
+            names,
+        } = self;
+        let number = reader.number();
+        if let Err(fault) = read {
+            lines.push_reserved(Line::Refused {
+                number,
+                fault,
+                offset: reader.offset(),
+            });
+        }
+        lines.push_reserved(Line::Records(number - 1));
+        list_classes(&names.slots, Sort::Slots, &mut lines);
+        list_classes(&names.readings, Sort::Readings, &mut lines);
+        lines
+    }
 }
 
 /// Is the log longer than the longest that is read?
@@ -88,23 +98,22 @@ fn is_too_long(log: &[u8]) -> bool
     log.len() > LONGEST
 }
 
-impl Room {
-    /// The lines of a log.
-    pub fn list(self, log: &[u8]) -> Vec<Line>
-        ensures lines { result.items ≡ lines_of log.now }
-        ensures means { ListsRecords }
-    {
-        let Room { mut lines } = self;
-        if is_too_long(log) {
-            lines.push_reserved(Line::Refused {
-                number: 0,
-                fault: Fault::LogTooLong,
-                offset: 0,
-            });
-            lines.push_reserved(Line::Records(0));
-        } else {
-            list_records(&mut lines, log);
-        }
-        lines
+/// The lines of a log.
+pub fn list(room: Room, log: &[u8]) -> Vec<Line>
+    ensures lines { result.items ≡ lines_of log.now }
+    ensures means { ListsRecords }
+{
+    let mut lines = room.into_list();
+    if is_too_long(log) {
+        lines.push_reserved(Line::Refused {
+            number: 0,
+            fault: Fault::LogTooLong,
+            offset: 0,
+        });
+        lines.push_reserved(Line::Records(0));
+        return lines;
     }
+    let mut listing = Listing::new(lines, log);
+    let read = listing.list_records();
+    listing.finish(read)
 }

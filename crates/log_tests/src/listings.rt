@@ -1,14 +1,14 @@
 //! Listings of a few logs, and of the longest.
 
 use listing::input::read_log;
-use listing::room::Room;
+use listing::list::{Room, list};
 use std::alloc::Global;
 use std::test::Fail;
 
 /// The lines of a log, each with a line end.
 fn text(heap: Global, log: &[u8]) -> Result<String, Fail> {
     let mut text = String::new(heap);
-    for line in Room::new(heap)?.list(log) {
+    for line in list(Room::new(heap)?, log) {
         text.push_str(line.to_string(heap)?.as_str())?;
         text.push('\n')?;
     }
@@ -117,7 +117,7 @@ fn a_refused_opening_or_pairing_is_listed_in_its_place(rt: HostRuntime) -> Resul
 fn the_longest_log_is_listed(rt: HostRuntime) -> Result<(), Fail> {
     let heap = rt.alloc();
     let log = equalities(heap, 8190)?;
-    let lines = Room::new(heap)?.list(log.as_slice());
+    let lines = list(Room::new(heap)?, log.as_slice());
     assert!(rt; lines.len() == 1171);
     assert_eq!(rt; lines[1169].to_string(heap)?.as_str(), "1170 8183 E 1 2");
     assert_eq!(rt; lines[1170].to_string(heap)?.as_str(), "records 1170");

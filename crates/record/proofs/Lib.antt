@@ -1,3 +1,1 @@
-pub mod Contradiction
 pub mod RoundTrip
-pub mod Rows

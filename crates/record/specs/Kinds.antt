@@ -1,5 +1,6 @@
 -- The table of kinds: which fields of a record count.
-use Rattle.std.specs.Prelude.{ℕ, Bool, true, false, cond, ◌&&◌, ◌||◌, List, [], ◌∷◌, Some, None, Option, ◌==◌, slice_index_or}
+use Rattle.std.specs.Prelude.{ℕ, Bool, true, false, cond, ◌||◌, List, [], ◌∷◌, map, Option, ◌==◌, slice_index_or}
+use Rattle.std.specs.List.{find, list_all, zip}
 use Rattle.record.specs.declared.kinds.Kind.{Kind}
 use Rattle.record.specs.declared.kinds.Kind.TheVariants.{Opening, SlotPairing, ReadingPairing, Writes, Reads, Equals, Differs}
 use Rattle.record.specs.declared.kinds.Row.{Row}
@@ -22,8 +23,7 @@ kinds =
 
 -- the first of the rows that has this byte
 abbrev pub row_in : List Row → ℕ → Option Row
-row_in [] byte = None
-row_in (row ∷ rows) byte = cond (row.byte == byte) (Some row) (row_in rows byte)
+row_in rows byte = find (λ row. row.byte == byte) rows
 
 -- where the row of a kind stands in the table
 abbrev pub place : Kind → ℕ
@@ -56,13 +56,7 @@ allows s field = counts s || field == 0
 
 -- what a function makes of each sort and its field
 abbrev pub each_field : {A : Type 0} → (Sort → ℕ → A) → List Sort → List ℕ → List A
-each_field f [] fields = []
-each_field f (s ∷ sorts) [] = []
-each_field f (s ∷ sorts) (x ∷ fields) = f s x ∷ each_field f sorts fields
-
-abbrev pub all : List Bool → Bool
-all [] = true
-all (b ∷ bs) = b && all bs
+each_field f sorts fields = map (λ p. f p.0 p.1) (zip sorts fields)
 
 -- the fields, with 0 for each that does not count
 abbrev pub masked : List Sort → List ℕ → List ℕ
@@ -70,4 +64,4 @@ masked = each_field kept
 
 -- is each field that does not count 0?
 abbrev pub unused_are_zero : List Sort → List ℕ → Bool
-unused_are_zero sorts fields = all (each_field allows sorts fields)
+unused_are_zero sorts fields = list_all (λ p. allows p.0 p.1) (zip sorts fields)

@@ -1,7 +1,7 @@
 //! The table of kinds: which fields of a record count. The reader and the writer both read it.
 
-ghost use Rattle.std.specs.Prelude.{◌≡◌, length};
-ghost use Rattle.record.specs.Kinds.{allows, kept, kinds, masked, row_in, row_of, unused_are_zero};
+ghost use Rattle.std.specs.Prelude.{◌≡◌};
+ghost use Rattle.record.specs.Kinds.{allows, counts, kept, kinds, masked, row_in, row_of, unused_are_zero};
 
 use Sort::{Count, ReadingName, SlotName, TableName, Unused};
 
@@ -18,24 +18,25 @@ pub(crate) enum Sort {
 }
 
 impl Sort {
+    /// Does a field of this sort say something?
+    pub(crate) fn counts(self) -> bool
+        ensures { result ≡ counts self }
+    {
+        !matches!(self, Sort::Unused)
+    }
+
     /// What a field of this sort is written as: itself where it counts, else 0.
     fn kept(self, field: u8) -> u8
         ensures { result ≡ kept self field }
     {
-        match self {
-            Sort::Unused => 0,
-            _ => field,
-        }
+        if self.counts() { field } else { 0 }
     }
 
     /// Is the field 0, or one that counts?
     fn allows(self, field: u8) -> bool
         ensures { result ≡ allows self field }
     {
-        match self {
-            Sort::Unused => field == 0,
-            _ => true,
-        }
+        self.counts() || field == 0
     }
 }
 
@@ -101,23 +102,11 @@ const KINDS: [Row; 7] = [
     },
 ];
 
-/// The first of the rows that has this byte.
-fn row_in(rows: &[Row], byte: u8) -> Option<Row>
-    ensures { result ≡ row_in rows.now byte }
-{
-    for row in rows {
-        if row.byte == byte {
-            return Some(*row);
-        }
-    }
-    None
-}
-
 /// The row of the kind that this byte stands for.
 pub(crate) fn row_of_byte(byte: u8) -> Option<Row>
     ensures { result ≡ row_in kinds byte }
 {
-    row_in(&KINDS, byte)
+    KINDS.iter().copied().find(|row| row.byte == byte)
 }
 
 impl Kind {
@@ -133,21 +122,15 @@ impl Kind {
 pub(crate) fn masked(sorts: [Sort; 4], fields: [u8; 4]) -> [u8; 4]
     ensures { result ≡ masked sorts fields }
 {
-    let mut bytes = [0; 4];
-    for k in 0..4 {
-        bytes[k] = sorts[k].kept(fields[k]);
-    }
-    bytes
+    std::array::from_fn(|k| sorts[k].kept(fields[k]))
 }
 
 /// Is each field that does not count 0?
 pub(crate) fn unused_are_zero(sorts: [Sort; 4], fields: [u8; 4]) -> bool
     ensures { result ≡ unused_are_zero sorts fields }
 {
-    for k in 0..4 {
-        if !sorts[k].allows(fields[k]) {
-            return false;
-        }
-    }
-    true
+    sorts
+        .iter()
+        .zip(&fields)
+        .all(|(sort, field)| sort.allows(*field))
 }

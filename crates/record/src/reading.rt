@@ -18,13 +18,13 @@ pub(crate) const MARK: [u8; 2] = [0x4D, 0x54];
 #[derive(Clone, Copy, PartialEq, Eq, Debug)]
 pub enum ReadRefusal {
     /// fewer than seven bytes are left
-    Incomplete,
+    Incomplete = 31,
     /// they do not begin with the mark
-    Unmarked,
+    Unmarked = 32,
     /// no kind has this byte
-    UnknownKind,
+    UnknownKind = 33,
     /// a field that the kind leaves unused is not 0
-    UnusedFieldSet,
+    UnusedFieldSet = 34,
 }
 
 impl ReadRefusal {
@@ -32,12 +32,7 @@ impl ReadRefusal {
     pub fn number(self) -> u8
         ensures { result ≡ number_of self }
     {
-        match self {
-            ReadRefusal::Incomplete => 31,
-            ReadRefusal::Unmarked => 32,
-            ReadRefusal::UnknownKind => 33,
-            ReadRefusal::UnusedFieldSet => 34,
-        }
+        self as u8
     }
 }
 
@@ -48,16 +43,14 @@ fn read(bytes: &[u8]) -> Result<Option<Record>, ReadRefusal>
     if bytes.is_empty() {
         return Ok(None);
     }
-    if bytes.len() < LENGTH {
+    let [first, second, kind, x, y, z, u, ..] = *bytes else {
         return Err(ReadRefusal::Incomplete);
-    }
-    if bytes[0] != MARK[0] || bytes[1] != MARK[1] {
+    };
+    if [first, second] != MARK {
         return Err(ReadRefusal::Unmarked);
     }
-    let Some(row) = row_of_byte(bytes[2]) else {
-        return Err(ReadRefusal::UnknownKind);
-    };
-    let fields = [bytes[3], bytes[4], bytes[5], bytes[6]];
+    let row = row_of_byte(kind).ok_or(ReadRefusal::UnknownKind)?;
+    let fields = [x, y, z, u];
     if !unused_are_zero(row.sorts, fields) {
         return Err(ReadRefusal::UnusedFieldSet);
     }

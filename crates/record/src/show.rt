@@ -9,16 +9,20 @@ use std::fmt;
 
 /// A field as it is printed: a space and the number where it counts, else nothing.
 #[derive(Clone, Copy)]
-struct Operand(Sort, u8);
+struct Operand {
+    sort: Sort,
+    field: u8,
+}
 
 impl fmt::Display for Operand {
-    ghost output = { λ x. Some (shown_field x.0 x.1) };
+    ghost output = { λ x. Some (shown_field x.sort x.field) };
 
     fn fmt<W: fmt::Write>(&self, f: &mut fmt::Formatter<W>) -> fmt::Result {
-        let field = self.1;
-        match self.0 {
-            Sort::Unused => Ok(()),
-            _ => write!(f, " {field}"),
+        let Operand { sort, field } = *self;
+        if sort.counts() {
+            write!(f, " {field}")
+        } else {
+            Ok(())
         }
     }
 }
@@ -28,13 +32,12 @@ impl fmt::Display for Record {
 
     fn fmt<W: fmt::Write>(&self, f: &mut fmt::Formatter<W>) -> fmt::Result {
         let row = self.kind().row();
-        let [x, y, z, u] = self.fields();
-        let [first, second, third, fourth] = row.sorts;
+        let fields = self.fields();
+        let [x, y, z, u]: [Operand; 4] = std::array::from_fn(|k| Operand {
+            sort: row.sorts[k],
+            field: fields[k],
+        });
         let letter = char::from(row.byte);
-        let p = Operand(first, x);
-        let q = Operand(second, y);
-        let r = Operand(third, z);
-        let s = Operand(fourth, u);
-        write!(f, "{letter}{p}{q}{r}{s}")
+        write!(f, "{letter}{x}{y}{z}{u}")
     }
 }

@@ -11,7 +11,7 @@ use crate::reading::{LENGTH, MARK};
 #[derive(Clone, Copy, PartialEq, Eq, Debug)]
 pub enum WriteRefusal {
     /// the buffer has fewer than seven bytes
-    BufferTooShort,
+    BufferTooShort = 20,
 }
 
 impl WriteRefusal {
@@ -19,9 +19,7 @@ impl WriteRefusal {
     pub fn number(self) -> u8
         ensures { result ≡ number_of_write self }
     {
-        match self {
-            WriteRefusal::BufferTooShort => 20,
-        }
+        self as u8
     }
 }
 
@@ -31,8 +29,9 @@ impl Record {
         ensures { result ≡ bytes_of self.now }
     {
         let row = self.kind().row();
+        let [first, second] = MARK;
         let [x, y, z, u] = masked(row.sorts, self.fields());
-        [MARK[0], MARK[1], row.byte, x, y, z, u]
+        [first, second, row.byte, x, y, z, u]
     }
 
     /// Puts the record into the first seven bytes of the buffer, and answers 7.

@@ -1,5 +1,4 @@
-use Rattle.std.proofs.Common.{◌≡◌, ℕ, List, ◌++◌, vec_items, sym, refl, ap, ◌∙◌, append_assoc, arith}
-use Rattle.std.proofs.lemmas.List.{append-nil}
+use Rattle.std.proofs.Common.{◌≡◌, ℕ, List, ◌++◌, vec_items, sym, ap, ◌∙◌, append_assoc, arith}
 use Rattle.std.specs.List.{range_with_len, flat_map}
 use Rattle.paired.specs.Held.{pairings_of}
 use Rattle.paired.specs.Pairings.{meaning_of}
@@ -7,15 +6,6 @@ use Rattle.listing.specs.declared.line.Line.{Line}
 use Rattle.listing.specs.Lines.{class_line, class_lines}
 use Rattle.listing.proofs.Counting.{joined_counting}
 use Rattle.listing.proofs.classing.list_classes.Goals as goal
-
-pub loop-name-init : goal.loop-name-init
-loop-name-init c = (sym (append-nil (vec_items c.args.lines.now)), omega arith, refl)
-
-pub list_class-requires : goal.list_class-requires
-list_class-requires c = record {
-  name = omega (arith, c.args.names.now.few, c.count-name-end.ensures);
-  room = omega (arith, c.loop-name.invariant.1, c.loop-name.invariant.2, c.args.names.now.few, c.count-name-end.ensures, c.requires);
-}
 
 pub loop-name-preserved : goal.loop-name-preserved
 loop-name-preserved c =

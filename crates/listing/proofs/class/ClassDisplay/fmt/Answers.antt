@@ -1,12 +1,9 @@
 use Rattle.std.proofs.Common.{◌≡◌, ◌++◌, sym, refl, ap, arith}
-use Rattle.std.proofs.Output.{has_written_of_eq, has_written_append, writes_in_calls_nil}
+use Rattle.std.proofs.Output.{has_written_of_eq, has_written_append}
 use Rattle.std.specs.List.{range_with_len, flat_map}
 use Rattle.listing.specs.Classes.{shown_members, shown_name, shown_sort}
 use Rattle.listing.proofs.Counting.{joined_counting}
 use Rattle.listing.proofs.class.ClassDisplay.fmt.Goals as goal
-
-pub loop-name-init : goal.loop-name-init
-loop-name-init g c = λ plain. record { wrote = writes_in_calls_nil g.W.Write.write_str_gives _; plain = plain }
 
 pub loop-name-preserved : goal.loop-name-preserved
 loop-name-preserved g c = λ plain.
