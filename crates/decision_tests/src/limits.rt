@@ -105,8 +105,8 @@ fn the_512th_stands_and_no_other(rt: HostRuntime) -> Result<(), Fail> {
     assert_eq!(rt; standing.statements().len(), 512);
     assert!(rt; standing.fits(same));
     assert!(rt; !standing.add(same));
-    assert!(rt; standing.remove(511));
-    assert!(rt; !standing.remove(511));
+    assert!(rt; standing.remove(511).is_some());
+    assert!(rt; standing.remove(511).is_none());
     assert!(rt; standing.add(same));
     Ok(())
 }

@@ -1,14 +1,14 @@
 //! Changing a table of standing statements, so that what its type keeps still holds.
 
-ghost use Rattle.std.specs.Prelude.{◌≡◌, ◌&&◌, [], ◌∷◌, ◌++◌, length, if◌then◌else◌, nat_lt};
+ghost use Rattle.std.specs.Prelude.{◌≡◌, ◌&&◌, [], ◌∷◌, ◌++◌, if◌then◌else◌, slice_get};
 ghost use Rattle.column.specs.Naming.{setting_of};
 ghost use Rattle.meaning.specs.Columns.{test};
 ghost use Rattle.meaning.specs.Fillings.{is_within};
 ghost use Rattle.meaning.specs.Theorems.{omit};
 ghost use Rattle.standing.specs.Changes.{admits, opens};
 
+use crate::memory::{MOST, Room};
 use crate::names::is_within;
-use crate::room::{MOST, Room};
 use crate::standing::Standing;
 use column::Naming;
 use decision::fits;
@@ -31,7 +31,7 @@ impl Standing {
         }
     }
 
-    /// Sets how many tables there are: no fewer than before, so that no statement loses its tables.
+    /// Sets how many tables there are, and answers whether it did: no fewer than before, so that no statement loses its tables.
     pub fn open(&mut self, tables: u8) -> bool
         ensures answer { result ≡ opens self.old.tables tables }
         ensures tables { self.new.tables ≡ (if opens self.old.tables tables then tables else self.old.tables) }
@@ -49,13 +49,11 @@ impl Standing {
     pub fn fits(&self, offered: Statement) -> bool
         ensures { result ≡ (is_within self.now.tables (setting_of self.now.naming) offered && test (setting_of self.now.naming) (offered ∷ self.now.list.items)) }
     {
-        if !is_within(self.tables, &self.naming, offered) {
-            return false;
-        }
-        fits(&self.naming, offered, &[], self.list.as_slice())
+        is_within(self.tables, &self.naming, offered)
+            && fits(&self.naming, offered, &[], self.list.as_slice())
     }
 
-    /// Adds a statement at the end, if there is a place for it and it fits with those that stand.
+    /// Adds a statement at the end, if there is a place for it and it fits with those that stand, and answers whether it did.
     pub fn add(&mut self, x: Statement) -> bool
         ensures answer { result ≡ admits self.old.tables self.old.naming self.old.list.items x }
         ensures tables { self.new.tables ≡ self.old.tables }
@@ -72,17 +70,16 @@ impl Standing {
         true
     }
 
-    /// Takes away the statement at place k, if there is one.
-    pub fn remove(&mut self, k: usize) -> bool
-        ensures answer { result ≡ nat_lt k (length self.old.list.items) }
+    /// Takes away the statement at place k, if there is one, and gives it back.
+    pub fn remove(&mut self, k: usize) -> Option<Statement>
+        ensures answer { result ≡ slice_get self.old.list.items k }
         ensures tables { self.new.tables ≡ self.old.tables }
         ensures naming { self.new.naming ≡ self.old.naming }
         ensures statements { self.new.list.items ≡ omit k self.old.list.items }
     {
         if k >= self.list.len() {
-            return false;
+            return None;
         }
-        let _ = self.list.remove(k);
-        true
+        Some(self.list.remove(k))
     }
 }

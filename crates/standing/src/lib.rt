@@ -4,12 +4,11 @@
 
 mod asking;
 mod keeping;
+mod memory;
 mod names;
-mod room;
-mod rooms;
 mod standing;
 
 pub use keeping::MOST_TABLES;
+pub use memory::{MOST, Room};
 pub use names::{are_tables_below, is_below, is_within, reading_of};
-pub use room::{MOST, Room};
 pub use standing::Standing;

@@ -1,5 +1,5 @@
 use Rattle.std.proofs.Common.{◌≤◌, length, vec_items, sym, refl, ◌∙◌, arith}
-use Rattle.std.proofs.lemmas.Bool.{le-ltb, lt-ltb}
+use Rattle.std.proofs.lemmas.Option.{slice_get_past, slice_get_read}
 use Rattle.standing.proofs.Stands.{omit_beyond, omitted_stands, removed_omit}
 use Rattle.standing.proofs.standing.Standing.remove.Goals as goal
 
@@ -9,7 +9,7 @@ returns-then-k-len c =
     let xs = vec_items c.args.self.now.list in
     let beyond : length xs ≤ k = omega arith in
     record {
-      answer = sym (le-ltb k (length xs) beyond);
+      answer = sym (slice_get_past xs k beyond);
       tables = refl;
       naming = refl;
       statements = sym (omit_beyond k xs beyond);
@@ -32,7 +32,7 @@ returns c =
     let k = c.args.k in
     let xs = vec_items c.args.self.now.list in
     record {
-      answer = sym (lt-ltb k (length xs) (omega arith));
+      answer = sym (slice_get_read xs (length xs) k c.remove.result refl (omega arith) c.remove.ensures.value);
       tables = refl;
       naming = refl;
       statements = c.remove.ensures.items ∙ removed_omit k xs;
