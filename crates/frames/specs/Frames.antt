@@ -1,6 +1,5 @@
 -- What the definitions answer where a frame asks.
 use Rattle.std.specs.Prelude.{ℕ, Bool, false, cond, ◌&&◌, ◌||◌, List, [], ◌∷◌, ◌++◌, length, drop, Some, None, Option, ◌==◌}
-use Rattle.links.specs.Lists.{present}
 use Rattle.arrangement.specs.Meaning.{Meaning}
 use Rattle.statement.specs.declared.Reading.{Reading}
 use Rattle.statement.specs.declared.Statement.{Statement}
@@ -47,7 +46,7 @@ answer_in opening xs Filling = Numbers (filling (setting_of opening) opening.tab
 
 -- what the definitions answer to the question of a row
 abbrev pub given : Frame → Answer
-given row = answer_in row.0.0 (present (row.0.1 ∷ row.0.2 ∷ [])) row.1
+given row = answer_in row.0.0 row.0.1.now row.1
 
 -- the answer that the row expects
 abbrev pub expected : Frame → Answer

@@ -20,7 +20,7 @@ pub struct Opening {
 
 /// What a case was opened with, and the statements that stand in it, in order.
 #[derive(Clone, Copy)]
-pub struct Standing(pub Opening, pub Option<Statement>, pub Option<Statement>);
+pub struct Standing(pub Opening, pub &'static [Statement]);
 
 /// What is asked of the statements that stand.
 #[derive(Clone, Copy)]
@@ -36,7 +36,8 @@ pub enum Question {
 pub enum Answer {
     /// The entered statement fits.
     Taken,
-    /// The entered statement does not fit: the positions that are cited, from 1, and 0 where there are fewer.
+    /// The entered statement does not fit: the positions that are cited, from 1, and 0 where there are fewer. An array, since in a
+    /// clause a slice brings its place in memory along, and answers with equal slices would still differ.
     Finding([u16; 2]),
     /// No reading follows.
     Free,

@@ -111,39 +111,39 @@ const SMALL: Opening = Opening {
 };
 
 // What stands where a row asks, by the frame in which it comes to stand.
-const NEW: Standing = Standing(PLAIN, None, None);
+const NEW: Standing = Standing(PLAIN, &[]);
 
-const FRAME_2: Standing = Standing(PLAIN, Some(W_1_0_0_0), None);
+const FRAME_2: Standing = Standing(PLAIN, &[W_1_0_0_0]);
 
-const FRAME_3: Standing = Standing(PLAIN, Some(W_1_0_0_0), Some(W_2_1_1_1));
+const FRAME_3: Standing = Standing(PLAIN, &[W_1_0_0_0, W_2_1_1_1]);
 
-const FRAME_5_NEW: Standing = Standing(SLOTS_PAIRED, None, None);
+const FRAME_5_NEW: Standing = Standing(SLOTS_PAIRED, &[]);
 
-const FRAME_5_ONE: Standing = Standing(SLOTS_PAIRED, Some(W_1_0_0_0), None);
+const FRAME_5_ONE: Standing = Standing(SLOTS_PAIRED, &[W_1_0_0_0]);
 
-const FRAME_5: Standing = Standing(SLOTS_PAIRED, Some(W_1_0_0_0), Some(W_2_1_1_1));
+const FRAME_5: Standing = Standing(SLOTS_PAIRED, &[W_1_0_0_0, W_2_1_1_1]);
 
-const FRAME_7: Standing = Standing(PLAIN, Some(W_1_0_0_0), Some(R_0_0_0));
+const FRAME_7: Standing = Standing(PLAIN, &[W_1_0_0_0, R_0_0_0]);
 
-const FRAME_8: Standing = Standing(PLAIN, Some(W_1_0_0_0), Some(R_0_0_1));
+const FRAME_8: Standing = Standing(PLAIN, &[W_1_0_0_0, R_0_0_1]);
 
-const FRAME_9_ONE: Standing = Standing(PLAIN, Some(R_0_0_0), None);
+const FRAME_9_ONE: Standing = Standing(PLAIN, &[R_0_0_0]);
 
-const FRAME_9: Standing = Standing(PLAIN, Some(R_0_0_0), Some(R_0_0_0));
+const FRAME_9: Standing = Standing(PLAIN, &[R_0_0_0, R_0_0_0]);
 
-const PAIRED_9_NEW: Standing = Standing(READINGS_PAIRED, None, None);
+const PAIRED_9_NEW: Standing = Standing(READINGS_PAIRED, &[]);
 
-const PAIRED_9_ONE: Standing = Standing(READINGS_PAIRED, Some(R_0_0_0), None);
+const PAIRED_9_ONE: Standing = Standing(READINGS_PAIRED, &[R_0_0_0]);
 
-const PAIRED_9: Standing = Standing(READINGS_PAIRED, Some(R_0_0_0), Some(R_0_0_0));
+const PAIRED_9: Standing = Standing(READINGS_PAIRED, &[R_0_0_0, R_0_0_0]);
 
-const FRAME_10: Standing = Standing(PLAIN, Some(W_0_0_0_0), None);
+const FRAME_10: Standing = Standing(PLAIN, &[W_0_0_0_0]);
 
-const FRAME_11: Standing = Standing(PLAIN, Some(W_1_0_0_0), Some(R_1_1_1));
+const FRAME_11: Standing = Standing(PLAIN, &[W_1_0_0_0, R_1_1_1]);
 
-const FRAME_12_NEW: Standing = Standing(SMALL, None, None);
+const FRAME_12_NEW: Standing = Standing(SMALL, &[]);
 
-const FRAME_12: Standing = Standing(SMALL, Some(W_1_0_0_0), None);
+const FRAME_12: Standing = Standing(SMALL, &[W_1_0_0_0]);
 
 const AT_SLOT_0: Answer = Differ(Limit { set: 1, count: 1 });
 
