@@ -22,17 +22,6 @@ fn classes(names: Names) -> Result<Classes, Refusal> {
     Ok(Classed::of(paired).classes)
 }
 
-/// Adds a statement that is to fit, if there is one.
-fn add(rt: &impl Abort, standing: &mut Standing, x: Option<Statement>) -> Result<(), Fail> {
-    match x {
-        Some(x) => {
-            assert!(rt; standing.add(x));
-            Ok(())
-        },
-        None => Ok(()),
-    }
-}
-
 /// What stands where a row asks.
 fn stands(rt: &impl Abort, heap: Global, row: &Frame) -> Result<Standing, Fail> {
     let opening = row.0.0;
@@ -42,8 +31,9 @@ fn stands(rt: &impl Abort, heap: Global, row: &Frame) -> Result<Standing, Fail> 
     };
     let mut standing = Standing::new(Room::new(heap)?, naming);
     assert!(rt; standing.open(opening.tables));
-    add(rt, &mut standing, row.0.1)?;
-    add(rt, &mut standing, row.0.2)?;
+    for x in row.0.1 {
+        assert!(rt; standing.add(*x));
+    }
     Ok(standing)
 }
 

@@ -1,1 +1,1 @@
-pub mod Stands
+pub mod Changes

@@ -1,11 +1,7 @@
 //! Changing a table of standing statements, so that what its type keeps still holds.
 
-ghost use Rattle.std.specs.Prelude.{◌≡◌, ◌&&◌, [], ◌∷◌, ◌++◌, if◌then◌else◌, slice_get};
-ghost use Rattle.column.specs.Naming.{setting_of};
-ghost use Rattle.meaning.specs.Columns.{test};
-ghost use Rattle.meaning.specs.Fillings.{is_within};
-ghost use Rattle.meaning.specs.Theorems.{omit};
-ghost use Rattle.standing.specs.Changes.{admits, opens};
+ghost use Rattle.std.specs.Prelude.{◌≡◌, slice_get};
+ghost use Rattle.standing.specs.Stands.{added, admits, fitting, nothing, opened, opens, removed, stands_of};
 
 use crate::memory::{MOST, Room};
 use crate::names::is_within;
@@ -20,9 +16,7 @@ pub const MOST_TABLES: u8 = 128;
 impl Standing {
     /// No table, and no statement.
     pub fn new(room: Room, naming: Naming) -> Standing
-        ensures tables { result.tables ≡ 0 }
-        ensures naming { result.naming ≡ naming }
-        ensures statements { result.list.items ≡ [] }
+        ensures { stands_of result ≡ nothing naming }
     {
         Standing {
             tables: 0,
@@ -33,10 +27,8 @@ impl Standing {
 
     /// Sets how many tables there are, and answers whether it did: no fewer than before, so that no statement loses its tables.
     pub fn open(&mut self, tables: u8) -> bool
-        ensures answer { result ≡ opens self.old.tables tables }
-        ensures tables { self.new.tables ≡ (if opens self.old.tables tables then tables else self.old.tables) }
-        ensures naming { self.new.naming ≡ self.old.naming }
-        ensures statements { self.new.list.items ≡ self.old.list.items }
+        ensures answer { result ≡ opens (stands_of self.old) tables }
+        ensures holds { stands_of self.new ≡ opened (stands_of self.old) tables }
     {
         if tables < self.tables || tables > MOST_TABLES {
             return false;
@@ -47,7 +39,7 @@ impl Standing {
 
     /// Does the statement fit with those that stand? No where one of its names is not below the counts.
     pub fn fits(&self, offered: Statement) -> bool
-        ensures { result ≡ (is_within self.now.tables (setting_of self.now.naming) offered && test (setting_of self.now.naming) (offered ∷ self.now.list.items)) }
+        ensures { result ≡ fitting (stands_of self.now) offered }
     {
         is_within(self.tables, &self.naming, offered)
             && fits(&self.naming, offered, &[], self.list.as_slice())
@@ -55,10 +47,8 @@ impl Standing {
 
     /// Adds a statement at the end, if there is a place for it and it fits with those that stand, and answers whether it did.
     pub fn add(&mut self, x: Statement) -> bool
-        ensures answer { result ≡ admits self.old.tables self.old.naming self.old.list.items x }
-        ensures tables { self.new.tables ≡ self.old.tables }
-        ensures naming { self.new.naming ≡ self.old.naming }
-        ensures statements { self.new.list.items ≡ (if admits self.old.tables self.old.naming self.old.list.items x then self.old.list.items ++ x ∷ [] else self.old.list.items) }
+        ensures answer { result ≡ admits (stands_of self.old) x }
+        ensures holds { stands_of self.new ≡ added (stands_of self.old) x }
     {
         if self.list.len() >= MOST {
             return false;
@@ -72,10 +62,8 @@ impl Standing {
 
     /// Takes away the statement at place k, if there is one, and gives it back.
     pub fn remove(&mut self, k: usize) -> Option<Statement>
-        ensures answer { result ≡ slice_get self.old.list.items k }
-        ensures tables { self.new.tables ≡ self.old.tables }
-        ensures naming { self.new.naming ≡ self.old.naming }
-        ensures statements { self.new.list.items ≡ omit k self.old.list.items }
+        ensures answer { result ≡ slice_get (stands_of self.old).statements k }
+        ensures holds { stands_of self.new ≡ removed (stands_of self.old) k }
     {
         if k >= self.list.len() {
             return None;

@@ -1,5 +1,5 @@
 use Rattle.std.proofs.Common.{vec_items, arith}
-use Rattle.standing.proofs.Stands.{added_stands}
+use Rattle.standing.proofs.Changes.{added_stands}
 use Rattle.standing.proofs.standing.Standing.add.Goals as goal
 
 pub invariant_of-self : goal.invariant_of-self

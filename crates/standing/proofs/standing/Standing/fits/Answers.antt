@@ -1,5 +1,5 @@
 use Rattle.std.proofs.Common.{vec_items}
-use Rattle.standing.proofs.Stands.{offered_answer}
+use Rattle.standing.proofs.Changes.{offered_answer}
 use Rattle.standing.proofs.standing.Standing.fits.Goals as goal
 
 pub returns-then-is_within : goal.returns-then-is_within

@@ -1,5 +1,5 @@
 use Rattle.std.proofs.Common.{length, ap, arith}
-use Rattle.standing.proofs.Stands.{nothing_stands}
+use Rattle.standing.proofs.Changes.{nothing_stands}
 use Rattle.standing.proofs.standing.Standing.new.Goals as goal
 
 pub invariant_of-result : goal.invariant_of-result

@@ -1,6 +1,7 @@
-use Rattle.std.proofs.Common.{◌≤◌, length, vec_items, sym, refl, ◌∙◌, arith}
+use Rattle.std.proofs.Common.{◌≤◌, length, vec_items, sym, refl, ap, ◌∙◌, arith}
 use Rattle.std.proofs.lemmas.Option.{slice_get_past, slice_get_read}
-use Rattle.standing.proofs.Stands.{omit_beyond, omitted_stands, removed_omit}
+use Rattle.standing.specs.Stands.{stands_of, with_statements}
+use Rattle.standing.proofs.Changes.{omit_beyond, omitted_stands, removed_omit}
 use Rattle.standing.proofs.standing.Standing.remove.Goals as goal
 
 pub returns-then-k-len : goal.returns-then-k-len
@@ -10,9 +11,7 @@ returns-then-k-len c =
     let beyond : length xs ≤ k = omega arith in
     record {
       answer = sym (slice_get_past xs k beyond);
-      tables = refl;
-      naming = refl;
-      statements = sym (omit_beyond k xs beyond);
+      holds = ap (with_statements (stands_of c.args.self.now)) (sym (omit_beyond k xs beyond));
     }
 
 pub invariant_of-self : goal.invariant_of-self
@@ -33,7 +32,5 @@ returns c =
     let xs = vec_items c.args.self.now.list in
     record {
       answer = sym (slice_get_read xs (length xs) k c.remove.result refl (omega arith) c.remove.ensures.value);
-      tables = refl;
-      naming = refl;
-      statements = c.remove.ensures.items ∙ removed_omit k xs;
+      holds = ap (with_statements (stands_of c.args.self.now)) (c.remove.ensures.items ∙ removed_omit k xs);
     }
