@@ -20,7 +20,6 @@ fn leads(members: &[bool], name: usize) -> bool
 }
 
 /// For each name whether it is the same as this one.
-#[tactic(auto, unfolding(crate::specs::Classes::members_of))]
 fn members(names: &Paired, name: u8) -> [bool; 64]
     ensures { result ≡ members_of (meaning_of (pairings_of names.now)) name }
 {
