@@ -17,15 +17,15 @@ pub told : (refusal : Option Refusal) → result_err (answer refusal (tt {0})) �
 told None = refl
 told (Some refusal) = refl
 
-abbrev Answer : Type 0
+abbrev pub Answer : Type 0
 Answer = Result (Option Record) ReadRefusal
 
 -- the lines from an offset on, by what is read there
 module _ (most : ℕ) (log : List ℕ) (offset : ℕ) (sorts : Sorts) where
-  abbrev lines : Answer → List Line
+  abbrev pub lines : Answer → List Line
   lines answer = line_at sorts answer offset ++ cond (goes_on answer) (lines_from most log (offset + 7) (sorts_then sorts answer)) (end_lines (offset / 7) sorts)
 
-  turn : lines_from (suc most) log offset sorts ≡ lines (read_one (drop offset log))
+  pub turn : lines_from (suc most) log offset sorts ≡ lines (read_one (drop offset log))
   unfolding lines_from
   turn = refl
 
