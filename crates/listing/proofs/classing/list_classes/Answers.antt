@@ -1,17 +1,16 @@
-use Rattle.std.proofs.Common.{◌≡◌, ℕ, List, ◌++◌, vec_items, sym, ap, ◌∙◌, append_assoc, arith}
+use Rattle.std.proofs.Common.{◌≡◌, ℕ, ◌+◌, ◌≤◌, Option, List, ◌++◌, vec_items, vec_len, vec_capacity, sym, ap, ◌∙◌, append_assoc, arith}
+use Rattle.std.proofs.lemmas.List.{append-nil}
 use Rattle.std.specs.List.{range_with_len, flat_map}
+use Rattle.std.specs.Option.{option_map, option_to_list}
 use Rattle.paired.specs.Held.{pairings_of}
 use Rattle.paired.specs.Pairings.{meaning_of}
+use Rattle.listing.specs.declared.class.Class.{Class}
 use Rattle.listing.specs.declared.line.Line.{Line}
+use Rattle.listing.specs.declared.line.Line.TheVariants.{Grouped}
 use Rattle.listing.specs.Lines.{class_line, class_lines}
 use Rattle.listing.proofs.Counting.{joined_counting}
 use Rattle.listing.proofs.classing.list_classes.Goals as goal
 use Rattle.listing.proofs.classing.list_classes.Goals.{in-Some, in_default}
-use Rattle.std.specs.Option.{option_map, option_to_list}
-use Rattle.listing.specs.declared.line.Line.TheVariants.{Grouped}
-use Rattle.std.proofs.Common.{◌+◌, ◌≤◌, vec_len, vec_capacity, Option}
-use Rattle.std.proofs.lemmas.List.{append-nil}
-use Rattle.listing.specs.declared.class.Class.{Class}
 
 -- the line of the class of this name follows, if there is one
 pub loop-name-preserved : goal.loop-name-preserved
