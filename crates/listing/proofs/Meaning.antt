@@ -1,29 +1,16 @@
 -- What a listing means: a log lists as these records exactly when it is their bytes.
-use Rattle.std.proofs.Common.{◌≡◌, ℕ, zero, suc, ◌+◌, ◌*◌, ◌/◌, ◌<◌, ◌≤◌, Bool, true, false, cond, ltb, List, [], ◌∷◌, ◌++◌, length, drop, Some, None, Ok, Err, Option, Result, sym, refl, ap, ◌∙◌, arith, lit<}
+use Rattle.std.proofs.Common.{◌≡◌, ℕ, zero, suc, ◌+◌, ◌*◌, ◌/◌, ◌<◌, ◌≤◌, Bool, true, false, cond, ltb, List, [], ◌∷◌, ◌++◌, length, drop, Some, None, Ok, Err, sym, refl, ap, ◌∙◌, arith, lit<}
 use native.Mathlib.Nat.{mul-div_cancel_left}
 use Rattle.std.proofs.lemmas.List.{drop_at, drop-drop, length-append, take-append-drop}
 use Rattle.std.proofs.lemmas.Bool.{cond-false, le-ltb}
 use Rattle.record.specs.declared.entry.Record.{Record}
-use Rattle.record.specs.declared.reading.ReadRefusal.{ReadRefusal}
 use Rattle.record.specs.Records.{bytes_of, read_one}
 use Rattle.record.proofs.RoundTrip.{back, none_left, only, seven_bytes}
 use Rattle.listing.specs.declared.line.Fault.TheVariants.{LogTooLong}
-use Rattle.listing.specs.declared.line.Line.{Line}
 use Rattle.listing.specs.declared.line.Line.TheVariants.{Read, Records, Refused}
-use Rattle.listing.specs.Lines.{ListsRecords, end_lines, goes_on, line_at, lines_from, log_of, numbered, sorts_then}
+use Rattle.listing.specs.Lines.{ListsRecords, end_lines, lines_from, log_of, numbered}
+use Rattle.listing.proofs.Steps.{Answer, lines, turn}
 use Rattle.listing.specs.Names.{Sorts, nothing, refusal_of, sorts_after}
-
-abbrev Answer : Type 0
-Answer = Result (Option Record) ReadRefusal
-
--- a log's lines from its k-th record on, by what is read there
-module _ (most k : ℕ) (log : List ℕ) (sorts : Sorts) where
-  abbrev lines : Answer → List Line
-  lines answer = line_at sorts answer (7 * k) ++ cond (goes_on answer) (lines_from most log (7 * k + 7) (sorts_then sorts answer)) (end_lines (7 * k / 7) sorts)
-
-  turn : lines_from (suc most) log (7 * k) sorts ≡ lines (read_one (drop (7 * k) log))
-  unfolding lines_from
-  turn = refl
 
 nth : (k : ℕ) → 7 * k / 7 ≡ k
 nth k = mul-div_cancel_left k (lit< tt)
@@ -38,12 +25,12 @@ rest_after k log rest x e =
 forth : (xs : List Record) (most k : ℕ) (log : List ℕ) (sorts : Sorts) → drop (7 * k) log ≡ log_of xs → length xs < most → lines_from most log (7 * k) sorts ≡ numbered sorts k xs
 forth xs zero k log sorts rest few = absurd (omega arith)
 forth [] (suc most) k log sorts rest few =
-    turn most k log sorts ∙ ap (λ bytes. lines most k log sorts (read_one bytes)) rest ∙ ap (λ n. end_lines n sorts) (nth k)
+    turn most log (7 * k) sorts ∙ ap (λ bytes. lines most log (7 * k) sorts (read_one bytes)) rest ∙ ap (λ n. end_lines n sorts) (nth k)
 forth (x ∷ xs) (suc most) k log sorts rest few =
     let later = forth xs most (k + 1) log (sorts_after sorts x) (rest_after k log (log_of xs) x rest) (omega arith) in
-    turn most k log sorts
-    ∙ ap (λ bytes. lines most k log sorts (read_one bytes)) rest
-    ∙ ap (lines most k log sorts) (back x (log_of xs))
+    turn most log (7 * k) sorts
+    ∙ ap (λ bytes. lines most log (7 * k) sorts (read_one bytes)) rest
+    ∙ ap (lines most log (7 * k) sorts) (back x (log_of xs))
     ∙ (λ i. Read (nth k i + 1) (7 * k) x (refusal_of sorts x) ∷ lines_from most log (next k i) (sorts_after sorts x))
     ∙ ap (λ ls. Read (k + 1) (7 * k) x (refusal_of sorts x) ∷ ls) later
 
@@ -53,7 +40,7 @@ back_from [] zero k log sorts e = absurd (cc)
 back_from (x ∷ xs) zero k log sorts e = absurd (cc)
 back_from xs (suc most) k log sorts e = go (read_one (drop (7 * k) log)) refl xs e (λ ys. back_from ys most (k + 1) log)
   where
-    go : (answer : Answer) → read_one (drop (7 * k) log) ≡ answer → (ys : List Record) → lines most k log sorts answer ≡ numbered sorts k ys → ((zs : List Record) (then : Sorts) → lines_from most log (7 * (k + 1)) then ≡ numbered then (k + 1) zs → drop (7 * (k + 1)) log ≡ log_of zs) → drop (7 * k) log ≡ log_of ys
+    go : (answer : Answer) → read_one (drop (7 * k) log) ≡ answer → (ys : List Record) → lines most log (7 * k) sorts answer ≡ numbered sorts k ys → ((zs : List Record) (then : Sorts) → lines_from most log (7 * (k + 1)) then ≡ numbered then (k + 1) zs → drop (7 * (k + 1)) log ≡ log_of zs) → drop (7 * k) log ≡ log_of ys
     go (Ok (Some x)) is [] same later = absurd (cc)
     go (Ok (Some x)) is (y ∷ ys) same later =
         let first : x ≡ y = cc in

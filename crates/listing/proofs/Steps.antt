@@ -17,15 +17,15 @@ pub told : (refusal : Option Refusal) → result_err (answer refusal (tt {0})) �
 told None = refl
 told (Some refusal) = refl
 
-abbrev Answer : Type 0
+abbrev pub Answer : Type 0
 Answer = Result (Option Record) ReadRefusal
 
 -- the lines from an offset on, by what is read there
 module _ (most : ℕ) (log : List ℕ) (offset : ℕ) (sorts : Sorts) where
-  abbrev lines : Answer → List Line
+  abbrev pub lines : Answer → List Line
   lines answer = line_at sorts answer offset ++ cond (goes_on answer) (lines_from most log (offset + 7) (sorts_then sorts answer)) (end_lines (offset / 7) sorts)
 
-  turn : lines_from (suc most) log offset sorts ≡ lines (read_one (drop offset log))
+  pub turn : lines_from (suc most) log offset sorts ≡ lines (read_one (drop offset log))
   unfolding lines_from
   turn = refl
 
@@ -37,16 +37,17 @@ module _ (most : ℕ) (log : List ℕ) (offset : ℕ) (sorts : Sorts) where
   ends_at (Err refusal) (Ok done) e = absurd (cc)
   ends_at (Err refusal) (Err fault) e = cc
 
--- a reader that refused what is there refuses it again
-stays : (answer : Answer) (fault : Fault) → heard answer ≡ Err fault → advance answer ≡ 0
-stays (Ok (Some x)) fault e = absurd (cc)
-stays (Ok None) fault e = refl
-stays (Err refusal) fault e = refl
+-- a reader that stops stays, and stops there again
+stays : (answer : Answer) (read : Result (Unit {0}) Fault) → heard answer ≡ stopped read → advance answer ≡ 0
+stays (Ok (Some x)) (Ok done) e = absurd (cc)
+stays (Ok (Some x)) (Err fault) e = absurd (cc)
+stays (Ok None) read e = refl
+stays (Err refusal) read e = refl
 
-pub refused_again : (log then_log : List ℕ) (offset then_offset : ℕ) (fault : Fault) → heard (read_one (drop offset log)) ≡ Err fault → then_log ≡ log → then_offset ≡ offset + advance (read_one (drop offset log)) → heard (read_one (drop then_offset then_log)) ≡ Err fault
-refused_again log then_log offset then_offset fault refused logs offsets =
-    let same : then_offset ≡ offset = omega (arith, offsets, stays (read_one (drop offset log)) fault refused) in
-    (λ i. heard (read_one (drop (same i) (logs i)))) ∙ refused
+pub stops_again : (log then_log : List ℕ) (offset then_offset : ℕ) (read : Result (Unit {0}) Fault) → heard (read_one (drop offset log)) ≡ stopped read → then_log ≡ log → then_offset ≡ offset + advance (read_one (drop offset log)) → heard (read_one (drop then_offset then_log)) ≡ stopped read
+stops_again log then_log offset then_offset read stops logs offsets =
+    let same : then_offset ≡ offset = omega (arith, offsets, stays (read_one (drop offset log)) read stops) in
+    (λ i. heard (read_one (drop (same i) (logs i)))) ∙ stops
 
 -- a record is listed: its line and those of the rest of the log are the lines from its offset on
 pub one_more : (log then_log : List ℕ) (offset then_offset : ℕ) (sorts then_sorts : Sorts) (items then_items : List Line) (x : Record) → read_one (drop offset log) ≡ Ok (Some x) → then_log ≡ log → then_offset ≡ offset + 7 → then_sorts ≡ sorts_after sorts x → then_items ≡ items ++ (Read (offset / 7 + 1) offset x (refusal_of sorts x) ∷ []) → offset ≤ 8190 → items ++ lines_from (1171 - offset / 7) log offset sorts ≡ lines_from 1171 log 0 nothing → then_items ++ lines_from (1171 - then_offset / 7) then_log then_offset then_sorts ≡ lines_from 1171 then_log 0 nothing

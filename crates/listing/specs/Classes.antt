@@ -1,5 +1,5 @@
 -- The classes of two names and more, and how they are printed.
-use Rattle.std.specs.Prelude.{ℕ, ◌+◌, Bool, false, cond, not, ◌&&◌, List, [], ◌++◌, map, take, drop, codes, decimal, slice_index_or}
+use Rattle.std.specs.Prelude.{ℕ, ◌+◌, Bool, false, cond, not, ◌&&◌, List, Some, None, Option, [], ◌++◌, map, take, drop, codes, decimal, slice_index_or}
 use Rattle.std.specs.List.{range_with_len, flat_map, list_any}
 use Rattle.arrangement.specs.Meaning.{Meaning, same}
 use Rattle.listing.specs.declared.class.Class.{Class}
@@ -16,6 +16,10 @@ any_true = list_any (λ b. b)
 -- is s the lowest of these members, and not the only one?
 abbrev pub leads : List Bool → ℕ → Bool
 leads members s = not (any_true (take s members)) && any_true (drop (s + 1) members)
+
+-- the class whose lowest name is s, if it has two names and more
+abbrev pub class_of : Sort → Meaning → ℕ → Option Class
+class_of sort m s = cond (leads (members_of m s) s) (Some (record { sort = sort; members = members_of m s })) None
 
 abbrev pub shown_sort : Sort → List ℕ
 shown_sort Slots = codes "slots"

@@ -1,6 +1,7 @@
 -- The lines of a log.
 use Rattle.std.specs.Prelude.{◌≡◌, ℕ, zero, suc, ◌+◌, ◌*◌, ◌/◌, ◌≤◌, Bool, true, false, cond, List, [], ◌∷◌, ◌++◌, length, drop, Some, None, Ok, Err, codes, decimal, Option, Result, nat_lt}
 use Rattle.std.specs.List.{range_with_len, flat_map}
+use Rattle.std.specs.Option.{option_map, option_to_list}
 use Rattle.arrangement.specs.Meaning.{Meaning}
 use Rattle.arrangement.specs.Refusals as refusals
 use Rattle.paired.specs.Pairings.{meaning_of}
@@ -16,7 +17,7 @@ use Rattle.listing.specs.declared.line.Line.{Line}
 use Rattle.listing.specs.declared.line.Line.TheVariants.{Grouped, Read, Records, Refused}
 use Rattle.listing.specs.declared.class.Sort.{Sort}
 use Rattle.listing.specs.declared.class.Sort.TheVariants.{Readings, Slots}
-use Rattle.listing.specs.Classes.{leads, members_of, shown_class}
+use Rattle.listing.specs.Classes.{class_of, shown_class}
 use Rattle.listing.specs.Names.{Sorts, nothing, refusal_of, sorts_after}
 
 abbrev pub number_of : Fault → ℕ
@@ -60,7 +61,7 @@ goes_on (Err refusal) = false
 
 -- the line of the class whose lowest name is s, if it has two names and more
 abbrev pub class_line : Sort → Meaning → ℕ → List Line
-class_line sort m s = cond (leads (members_of m s) s) (Grouped (record { sort = sort; members = members_of m s }) ∷ []) []
+class_line sort m s = option_to_list (option_map Grouped (class_of sort m s))
 
 -- the lines of all such classes, by rising lowest name
 unfoldable pub class_lines : Sort → Meaning → List Line

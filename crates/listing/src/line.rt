@@ -28,7 +28,7 @@ impl From<ReadRefusal> for Fault {
 }
 
 impl Fault {
-    /// The number by which the fault is reported.
+    /// The number by which the fault is reported. No variant has a number of its own, since one has that of its refusal.
     pub fn number(&self) -> u8
         ensures { result ≡ number_of self.now }
     {
@@ -38,7 +38,7 @@ impl Fault {
         }
     }
 
-    /// The layer that reports it.
+    /// The layer that reports it. Each fault is named, so that a new one has to say its layer.
     pub fn layer(&self) -> &'static str
         ensures { result.now ≡ layer_of self.now }
     {

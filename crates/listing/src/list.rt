@@ -1,6 +1,6 @@
 //! Listing a log.
 
-ghost use Rattle.std.specs.Prelude.{◌≡◌, ◌+◌, ◌≤◌, [], ◌++◌, length, vec_capacity, nat_lt};
+ghost use Rattle.std.specs.Prelude.{◌≡◌, ◌+◌, ◌≤◌, [], ◌++◌, length, vec_capacity};
 ghost use Rattle.record.specs.Records.{advance};
 ghost use Rattle.listing.specs.Names.{sorts_of};
 ghost use Rattle.listing.specs.Lines.{ListsRecords, ending, heard, lines_of, met, stopped};
@@ -91,20 +91,13 @@ impl<'a> Listing<'a> {
     }
 }
 
-/// Is the log longer than the longest that is read?
-fn is_too_long(log: &[u8]) -> bool
-    ensures { result ≡ nat_lt 8190 (length log.now) }
-{
-    log.len() > LONGEST
-}
-
 /// The lines of a log.
 pub fn list(room: Room, log: &[u8]) -> Vec<Line>
     ensures lines { result.items ≡ lines_of log.now }
     ensures means { ListsRecords }
 {
     let mut lines = room.into_list();
-    if is_too_long(log) {
+    if log.len() > LONGEST {
         lines.push_reserved(Line::Refused {
             number: 0,
             fault: Fault::LogTooLong,

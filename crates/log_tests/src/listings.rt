@@ -17,11 +17,8 @@ fn text(heap: Global, log: &[u8]) -> Result<String, Fail> {
 
 /// A log of so many bytes: E 1 2 again and again, the last perhaps cut short.
 fn equalities(heap: Global, bytes: usize) -> Result<Vec<u8>, Fail> {
-    let mut log = Vec::new(heap);
-    for k in 0..bytes {
-        log.push(b"MTE\x01\x02\0\0"[k % 7])?;
-    }
-    Ok(log)
+    let record = b"MTE\x01\x02\0\0";
+    Ok(record.iter().copied().cycle().take(bytes).collect(heap)?)
 }
 
 #[test]

@@ -21,10 +21,7 @@ fn the_fields_of_a_statement_are_read_in_their_order(rt: HostRuntime) {
 }
 
 fn refusal(log: &[u8]) -> Option<u8> {
-    match Reader::new(log).next() {
-        Ok(_) => None,
-        Err(refusal) => Some(refusal.number()),
-    }
+    Reader::new(log).next().err().map(ReadRefusal::number)
 }
 
 #[test]

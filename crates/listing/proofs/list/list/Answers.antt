@@ -1,20 +1,13 @@
-use Rattle.std.proofs.Common.{arith, ◌≤◌, [], ◌∷◌, ◌++◌, sym, ap, ◌∙◌}
-use Rattle.std.proofs.lemmas.Bool.{cond-false, cond-true}
-use Rattle.listing.specs.declared.line.Fault.TheVariants.{LogTooLong}
-use Rattle.listing.specs.declared.line.Line.TheVariants.{Records, Refused}
+use Rattle.std.proofs.Common.{arith, ◌≤◌, sym, ap, ◌∙◌}
+use Rattle.std.proofs.lemmas.Bool.{cond-false, le-ltb}
 use Rattle.listing.specs.Lines.{lines_from}
 use Rattle.listing.specs.Names.{nothing, sorts_of}
 use Rattle.listing.proofs.Meaning.{lists_records}
 use Rattle.listing.proofs.Steps.{finished}
 use Rattle.listing.proofs.list.list.Goals as goal
 
-pub returns-then-is_too_long : goal.returns-then-is_too_long
-returns-then-is_too_long c =
-    let first = c.push_reserved.ensures.items ∙ ap (λ items. items ++ (Refused 0 LogTooLong 0 ∷ [])) c.into_list-lines.ensures.empty in
-    record {
-      lines = c.push_reserved-then-is_too_long.ensures.items ∙ ap (λ items. items ++ (Records 0 ∷ [])) first ∙ sym (cond-true _ _ _ (sym c.if-is_too_long.ensures));
-      means = lists_records;
-    }
+pub returns-then-log-gt-LONGEST-clause-means : goal.returns-then-log-gt-LONGEST-clause-means
+returns-then-log-gt-LONGEST-clause-means c = lists_records
 
 pub returns : goal.returns
 returns c =
@@ -26,6 +19,6 @@ returns c =
           c.finish.ensures
           ∙ finished listing.reader.log.now listing.reader.offset (sorts_of listing.names) _ _ c.list_records-read.result c.list_records-read.ensures.stops short listing.whole
           ∙ ap (λ bytes. lines_from 1171 bytes 0 nothing) log
-          ∙ sym (cond-false _ _ _ (sym c.if-is_too_long.ensures));
+          ∙ sym (cond-false _ _ _ (le-ltb _ _ c.if-log-gt-LONGEST.false));
       means = lists_records;
     }
