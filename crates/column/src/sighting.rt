@@ -3,7 +3,7 @@
 ghost use Rattle.std.specs.Prelude.{◌≡◌, ℕ, true, ◌||◌, List, [], ◌∷◌, ◌++◌};
 ghost use Rattle.arrangement.specs.Meaning.{Meaning};
 ghost use Rattle.column.specs.Naming.{setting_of};
-ghost use Rattle.column.specs.Sights.{Readable, Seen, SeenAt, given, mark_of, marked_clash, marked_marks, reading_of, seem_alike};
+ghost use Rattle.column.specs.Sights.{Readable, Seen, SeenAt, given, marked_clash, marked_marks, reading_of, seem_alike};
 ghost use Rattle.links.specs.Groups.{Roots, root_of};
 ghost use Rattle.links.specs.Lists.{present};
 ghost use Rattle.meaning.specs.Columns.{link_at, links_at, mark_at, marks_at};
@@ -11,7 +11,7 @@ ghost use Rattle.meaning.specs.Fillings.{is_within};
 
 use crate::acts::{link_at, mark_at};
 use crate::naming::Naming;
-use crate::sight::{Sight, UNMARKED};
+use crate::sight::Sight;
 use links::groups::{Groups, NAMES};
 use meaning::Column;
 use statement::Statement;
@@ -23,20 +23,8 @@ impl Sight {
     {
         Sight {
             groups,
-            marks: [UNMARKED; 128],
+            marks: [None; 128],
             clash: false,
-        }
-    }
-
-    /// What is stored for a table's group.
-    fn mark(&self, table: u8) -> u8
-        ensures { result ≡ mark_of self.now.groups.root self.now.marks table }
-    {
-        let root = self.lowest(table) as usize;
-        if root < NAMES {
-            self.marks[root]
-        } else {
-            UNMARKED
         }
     }
 
@@ -46,15 +34,11 @@ impl Sight {
         ensures marks { self.new.marks ≡ marked_marks self.old.groups.root self.old.marks table reading }
         ensures clash { self.new.clash ≡ (self.old.clash || marked_clash self.old.groups.root self.old.marks table reading) }
     {
-        if table as usize >= NAMES {
-            return;
-        }
-        let mark = self.mark(table);
-        if mark == UNMARKED {
-            let root = self.lowest(table) as usize;
-            self.marks[root] = reading;
-        } else if mark != reading {
-            self.clash = true;
+        let root = self.lowest(table) as usize;
+        match self.reading(table) {
+            None if root < NAMES => self.marks[root] = Some(reading),
+            Some(first) if first != reading => self.clash = true,
+            _ => {}
         }
     }
 
@@ -69,8 +53,7 @@ impl Sight {
     pub fn reading(&self, table: u8) -> Option<u8>
         ensures { result ≡ reading_of self.now table }
     {
-        let mark = self.mark(table);
-        if mark == UNMARKED { None } else { Some(mark) }
+        *self.marks.get(self.lowest(table) as usize)?
     }
 
     /// The lowest table that the table is joined to.
@@ -84,14 +67,10 @@ impl Sight {
     pub fn are_alike(&self, a: u8, b: u8) -> bool
         ensures { result ≡ seem_alike self.now a b }
     {
-        if self.groups.are_joined(a, b) {
-            return true;
-        }
-        let mark = self.mark(a);
-        if mark == UNMARKED {
-            return false;
-        }
-        mark == self.mark(b)
+        self.groups.are_joined(a, b)
+            || self
+                .reading(a)
+                .is_some_and(|reading| self.reading(b) == Some(reading))
     }
 }
 
