@@ -1,4 +1,6 @@
 -- What a column shows: groups of tables, the reading of each group, and whether readings clash.
+use Rattle.std.specs.Borrow.{Bor}
+use Rattle.std.specs.List.{flat_map}
 use Rattle.std.specs.Prelude.{◌≡◌, ℕ, ◌<◌, Bool, true, false, not, ◌||◌, ◌↔◌, List, ◌∷◌, ◌++◌, Some, None, Option, ◌==◌, slice_index_or, slice_set}
 use Rattle.links.specs.Chains.{lowest_joined}
 use Rattle.links.specs.Groups.{Roots, root_of}
@@ -63,6 +65,10 @@ SeenAt w xs k s = Seen w.readings (links_at w xs k) (marks_at w xs k) s
 -- the names of the statements are below the counts, and the tables below 128
 abbrev pub Readable : Setting → List Statement → Type 0
 Readable w xs = (x : Statement) → Member x xs → is_within 128 w x ≡ true
+
+-- the list that the parts make, one after the other
+abbrev pub whole : List (Bor (List Statement)) → List Statement
+whole parts = flat_map (λ xs. xs.now) parts
 
 -- the offered statement, those kept, and the rest
 abbrev pub given : Statement → List Statement → List Statement → List Statement

@@ -6,8 +6,9 @@ mod acts;
 mod naming;
 mod sight;
 mod sighting;
+mod view;
 
-pub use acts::{difference, link_at, mark_at, slot_of};
+pub use acts::{difference, slot_of};
 pub use naming::Naming;
 pub use sight::Sight;
-pub use sighting::{sight_at, sight_of};
+pub use view::View;

@@ -3,17 +3,15 @@
 ghost use Rattle.std.specs.Prelude.{◌≡◌, ℕ, true, ◌||◌, List, [], ◌∷◌, ◌++◌};
 ghost use Rattle.arrangement.specs.Meaning.{Meaning};
 ghost use Rattle.column.specs.Naming.{setting_of};
-ghost use Rattle.column.specs.Sights.{Readable, Seen, SeenAt, given, marked_clash, marked_marks, reading_of, seem_alike};
+ghost use Rattle.column.specs.Sights.{Readable, Seen, SeenAt, marked_clash, marked_marks, reading_of, seem_alike, whole};
 ghost use Rattle.links.specs.Groups.{Roots, root_of};
 ghost use Rattle.links.specs.Lists.{present};
 ghost use Rattle.meaning.specs.Columns.{link_at, links_at, mark_at, marks_at};
 ghost use Rattle.meaning.specs.Fillings.{is_within};
 
-use crate::acts::{link_at, mark_at};
-use crate::naming::Naming;
 use crate::sight::Sight;
+use crate::view::View;
 use links::groups::{Groups, NAMES};
-use meaning::Column;
 use statement::Statement;
 
 impl Sight {
@@ -74,73 +72,66 @@ impl Sight {
     }
 }
 
-/// Joins the tables that the statement links at the column, if it links two.
-fn add_link_of(groups: &mut Groups, naming: &Naming, column: Column, x: Statement)
-    ensures { (links : List (ℕ × ℕ)) → is_within 128 (setting_of naming.now) x ≡ true → Roots links groups.old.root → Roots (links ++ present (link_at (setting_of naming.now) column x ∷ [])) groups.new.root }
-{
-    if let Some((a, b)) = link_at(naming, column, x) {
-        groups.join(a, b);
-    }
-}
-
-/// Joins the tables that the statements link at the column.
-fn add_links(groups: &mut Groups, naming: &Naming, column: Column, xs: &[Statement])
-    ensures { (links : List (ℕ × ℕ)) → Readable (setting_of naming.now) xs.now → Roots links groups.old.root → Roots (links ++ links_at (setting_of naming.now) xs.now column) groups.new.root }
-{
-    for x in xs {
-        add_link_of(groups, naming, column, *x);
-    }
-}
-
-/// Marks the table that the statement marks at the column, if it marks one.
-fn add_mark_of(sight: &mut Sight, naming: &Naming, column: Column, x: Statement)
-    ensures { (links marks : List (ℕ × ℕ)) → is_within 128 (setting_of naming.now) x ≡ true → Seen (setting_of naming.now).readings links marks sight.old → Seen (setting_of naming.now).readings links (marks ++ present (mark_at (setting_of naming.now) column x ∷ [])) sight.new }
-{
-    if let Some((table, v)) = mark_at(naming, column, x) {
-        if let Some(reading) = naming.readings.lowest(v) {
-            sight.add_mark(table, reading);
+impl View<'_> {
+    /// Joins the tables that the statement links at the column, if it links two.
+    fn add_link(&self, groups: &mut Groups, x: Statement)
+        ensures { (links : List (ℕ × ℕ)) → is_within 128 (setting_of self.now.naming.now) x ≡ true → Roots links groups.old.root → Roots (links ++ present (link_at (setting_of self.now.naming.now) self.now.column x ∷ [])) groups.new.root }
+    {
+        if let Some((a, b)) = self.link(x) {
+            groups.join(a, b);
         }
     }
-}
 
-/// Marks the tables that the statements mark at the column.
-fn add_marks(sight: &mut Sight, naming: &Naming, column: Column, xs: &[Statement])
-    ensures { (links marks : List (ℕ × ℕ)) → Readable (setting_of naming.now) xs.now → Seen (setting_of naming.now).readings links marks sight.old → Seen (setting_of naming.now).readings links (marks ++ marks_at (setting_of naming.now) xs.now column) sight.new }
-{
-    for x in xs {
-        add_mark_of(sight, naming, column, *x);
+    /// Joins the tables that the statements link at the column.
+    fn add_links(&self, groups: &mut Groups, xs: &[Statement])
+        ensures { (links : List (ℕ × ℕ)) → Readable (setting_of self.now.naming.now) xs.now → Roots links groups.old.root → Roots (links ++ links_at (setting_of self.now.naming.now) xs.now self.now.column) groups.new.root }
+    {
+        for x in xs {
+            self.add_link(groups, *x);
+        }
     }
-}
 
-/// The sight of a column: first all links, then the marks of the groups that they make.
-pub fn sight_at(
-    naming: &Naming,
-    column: Column,
-    offered: Statement,
-    kept: &[Statement],
-    rest: &[Statement],
-) -> Sight
-    ensures { Readable (setting_of naming.now) (given offered kept.now rest.now) → SeenAt (setting_of naming.now) (given offered kept.now rest.now) column result }
-{
-    let first = [offered];
-    let mut groups = Groups::new();
-    add_links(&mut groups, naming, column, &first);
-    add_links(&mut groups, naming, column, kept);
-    add_links(&mut groups, naming, column, rest);
-    let mut sight = Sight::over(groups);
-    add_marks(&mut sight, naming, column, &first);
-    add_marks(&mut sight, naming, column, kept);
-    add_marks(&mut sight, naming, column, rest);
-    sight
-}
+    /// Marks the table that the statement marks at the column, if it marks one.
+    fn add_mark(&self, sight: &mut Sight, x: Statement)
+        ensures { (links marks : List (ℕ × ℕ)) → is_within 128 (setting_of self.now.naming.now) x ≡ true → Seen (setting_of self.now.naming.now).readings links marks sight.old → Seen (setting_of self.now.naming.now).readings links (marks ++ present (mark_at (setting_of self.now.naming.now) self.now.column x ∷ [])) sight.new }
+    {
+        let Some((table, v)) = self.mark(x) else {
+            return;
+        };
+        let Some(reading) = self.naming.readings.lowest(v) else {
+            return;
+        };
+        sight.add_mark(table, reading);
+    }
 
-/// The sight of a column of one list.
-pub fn sight_of(naming: &Naming, column: Column, xs: &[Statement]) -> Sight
-    ensures { Readable (setting_of naming.now) xs.now → SeenAt (setting_of naming.now) xs.now column result }
-{
-    let mut groups = Groups::new();
-    add_links(&mut groups, naming, column, xs);
-    let mut sight = Sight::over(groups);
-    add_marks(&mut sight, naming, column, xs);
-    sight
+    /// Marks the tables that the statements mark at the column.
+    fn add_marks(&self, sight: &mut Sight, xs: &[Statement])
+        ensures { (links marks : List (ℕ × ℕ)) → Readable (setting_of self.now.naming.now) xs.now → Seen (setting_of self.now.naming.now).readings links marks sight.old → Seen (setting_of self.now.naming.now).readings links (marks ++ marks_at (setting_of self.now.naming.now) xs.now self.now.column) sight.new }
+    {
+        for x in xs {
+            self.add_mark(sight, *x);
+        }
+    }
+
+    /// The groups of tables that a list links at the column.
+    fn groups(&self, parts: &[&[Statement]]) -> Groups
+        ensures { Readable (setting_of self.now.naming.now) (whole parts.now) → Roots (links_at (setting_of self.now.naming.now) (whole parts.now) self.now.column) result.root }
+    {
+        let mut groups = Groups::new();
+        for xs in parts {
+            self.add_links(&mut groups, xs);
+        }
+        groups
+    }
+
+    /// The sight of the column, of a list that is given in parts: first all links, then the marks of the groups that they make.
+    pub fn sight(&self, parts: &[&[Statement]]) -> Sight
+        ensures { Readable (setting_of self.now.naming.now) (whole parts.now) → SeenAt (setting_of self.now.naming.now) (whole parts.now) self.now.column result }
+    {
+        let mut sight = Sight::over(self.groups(parts));
+        for xs in parts {
+            self.add_marks(&mut sight, xs);
+        }
+        sight
+    }
 }
