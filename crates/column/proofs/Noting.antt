@@ -1,7 +1,7 @@
 -- What one more mark does to the readings of groups, and to whether they clash.
-use Rattle.std.proofs.Common.{◌≡◌, ℕ, ◌<◌, Bool, true, false, cond, not, ◌&&◌, ◌||◌, eqb, ltb, ◌≢◌, ◌⊎◌, List, [], ◌∷◌, ◌++◌, length, get_or, set, replicate, Some, None, Option, sym, refl, ap, ◌∙◌, subst, inl, inr, arith}
+use Rattle.std.proofs.Common.{◌≡◌, ℕ, ◌<◌, Bool, true, false, cond, not, ◌||◌, eqb, ◌≢◌, ◌⊎◌, List, [], ◌∷◌, ◌++◌, length, get_or, set, replicate, Some, None, Option, sym, refl, ap, ◌∙◌, subst, inl, inr, arith}
 use Rattle.std.proofs.lemmas.List.{get_or_default, get_or_past, get_or-replicate, get_or-set_other, get_or-set_same, length-replicate}
-use Rattle.std.proofs.lemmas.Bool.{and_from, and_parts, both_ways, cases_Bool, cases_eq, cases_lt, eq-eqb, eqb-false, false≢true, lt-ltb, ne_eqb, not_from_false, not-true, or_cases, or_left, or_right}
+use Rattle.std.proofs.lemmas.Bool.{both_ways, cases_Bool, cases_eq, cases_lt, eqb-false, false≢true, ne_eqb, not-true, or_cases, or_left, or_right}
 use Rattle.links.specs.Chains.{joined, lowest_joined}
 use Rattle.links.specs.Groups.{Roots, root_of}
 use Rattle.links.specs.Lists.{Member}
@@ -10,8 +10,8 @@ use Rattle.links.proofs.Reach.{joined_finds, joined_self, joined_through, joined
 use Rattle.links.proofs.Roots.{lowest_back as joined_back, lowest-le as joined-le, lowest_same as joined_same}
 use Rattle.arrangement.specs.Meaning.{Lawful, Meaning, lowest, same}
 use Rattle.arrangement.specs.Laws.{same_answer}
-use Rattle.arrangement.specs.Lowest.{lowest_back, lowest-le, lowest_same}
-use Rattle.meaning.specs.Answers.{first_that, known_by, or_else, reading_in}
+use Rattle.arrangement.specs.Lowest.{lowest_back, lowest_same}
+use Rattle.meaning.specs.Answers.{first_that, known_by, reading_in}
 use Rattle.meaning.specs.Columns.{Clash}
 use Rattle.meaning.proofs.Known.{Marked, Unmarked, known_cases}
 use Rattle.meaning.proofs.Lists.{none_some}

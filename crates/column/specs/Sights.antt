@@ -4,7 +4,7 @@ use Rattle.std.specs.List.{flat_map}
 use Rattle.std.specs.Prelude.{◌≡◌, ℕ, ◌<◌, Bool, true, false, not, ◌||◌, ◌↔◌, List, ◌∷◌, ◌++◌, Some, None, Option, ◌==◌, slice_index_or, slice_set}
 use Rattle.links.specs.Chains.{lowest_joined}
 use Rattle.links.specs.Groups.{Roots, root_of}
-use Rattle.links.specs.Lists.{Member}
+use Rattle.links.specs.Lists.{Member, all_of}
 use Rattle.arrangement.specs.Meaning.{Meaning}
 use Rattle.statement.specs.declared.Statement.{Statement}
 use Rattle.meaning.specs.declared.column.Column.{Column}
@@ -65,6 +65,10 @@ SeenAt w xs k s = Seen w.readings (links_at w xs k) (marks_at w xs k) s
 -- the names of the statements are below the counts, and the tables below 128
 abbrev pub Readable : Setting → List Statement → Type 0
 Readable w xs = (x : Statement) → Member x xs → is_within 128 w x ≡ true
+
+-- are they?
+abbrev pub is_readable : Setting → List Statement → Bool
+is_readable w xs = all_of (is_within 128 w) xs
 
 -- the list that the parts make, one after the other
 abbrev pub whole : List (Bor (List Statement)) → List Statement

@@ -4,6 +4,7 @@
 
 mod acts;
 mod naming;
+mod reading;
 mod sight;
 mod sighting;
 mod view;

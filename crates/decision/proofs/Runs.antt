@@ -1,6 +1,7 @@
 -- Tests over lists, as loops make them.
-use Rattle.std.proofs.Common.{◌≡◌, ℕ, suc, ◌+◌, ◌<◌, ◌≤◌, Bool, true, false, ◌&&◌, ◌||◌, List, [], ◌∷◌, ◌++◌, length, get_or, take, sym, refl, ap, ◌∙◌, inl, inr, arith}
+use Rattle.std.proofs.Common.{◌≡◌, ℕ, suc, ◌+◌, ◌<◌, ◌≤◌, Bool, true, false, not, ◌&&◌, ◌||◌, List, [], ◌∷◌, ◌++◌, length, get_or, take, sym, refl, ap, ◌∙◌, inl, inr, arith}
 use Rattle.std.proofs.lemmas.List.{take_all, take_more}
+use Rattle.std.specs.List.{list_any}
 use Rattle.std.proofs.lemmas.Bool.{and_from, both_ways, cases_Bool}
 use Rattle.column.proofs.Parts.{member_at}
 use Rattle.links.specs.Lists.{all_of, any_of}
@@ -19,6 +20,14 @@ and_assoc true y z = refl
 and_assoc false y z = refl
 
 module _ {X : Type 0} (p : X → Bool) where
+  pub any_not : (xs : List X) → list_any (λ x. not (p x)) xs ≡ not (all_of p xs)
+  any_not [] = refl
+  any_not (x ∷ xs) = ap (λ b. not (p x) || b) (any_not xs) ∙ either (p x) (all_of p xs)
+    where
+      either : (a b : Bool) → (not a || not b) ≡ not (a && b)
+      either true b = refl
+      either false b = refl
+
   pub any_append : (xs ys : List X) → any_of p (xs ++ ys) ≡ (any_of p xs || any_of p ys)
   any_append [] ys = refl
   any_append (x ∷ xs) ys = ap (λ b. p x || b) (any_append xs ys) ∙ sym (or_assoc (p x) (any_of p xs) (any_of p ys))

@@ -5,7 +5,7 @@ ghost use Rattle.questions.specs.Asked.{links_in};
 ghost use Rattle.questions.specs.Linking.{all_inside};
 
 use crate::gathered::Gathered;
-use column::link_at;
+use column::View;
 use meaning::Column;
 use search::linked::Links;
 use standing::Standing;
@@ -19,7 +19,7 @@ pub(crate) fn gather(standing: &Standing, column: Column) -> Gathered
     let list = standing.statements();
     let mut links = [None; 512];
     for k in 0..list.len() {
-        links[k] = link_at(naming, column, list[k]);
+        links[k] = (View { naming, column }).link(list[k]);
     }
     Gathered {
         tables: standing.tables(),

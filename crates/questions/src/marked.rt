@@ -6,7 +6,7 @@ ghost use Rattle.links.specs.Lists.{present};
 ghost use Rattle.meaning.specs.Answers.{bears};
 ghost use Rattle.meaning.specs.Columns.{mark_at, marks_at};
 
-use column::{Naming, mark_at};
+use column::{Naming, View};
 use meaning::Column;
 use search::goal::Goal;
 use statement::Statement;
@@ -23,7 +23,7 @@ pub(crate) struct Marked<'a> {
 fn marks(naming: &Naming, column: Column, x: Statement, table: u8) -> bool
     ensures { result ≡ bears (present (mark_at (setting_of naming.now) column x ∷ [])) table }
 {
-    match mark_at(naming, column, x) {
+    match (View { naming, column }).mark(x) {
         Some((t, _)) => t == table,
         None => false,
     }

@@ -5,7 +5,7 @@ ghost use Rattle.arrangement.specs.Stored.{lowest_of};
 ghost use Rattle.column.specs.Sights.{SeenAt};
 ghost use Rattle.questions.specs.Asked.{list_in, setting_in};
 
-use column::{Sight, sight_of};
+use column::{Sight, View};
 use meaning::Column;
 use standing::Standing;
 
@@ -20,5 +20,9 @@ pub(crate) fn lowest_slot(standing: &Standing, i: u8) -> Option<u8>
 pub(crate) fn sight_in(standing: &Standing, column: Column) -> Sight
     ensures { SeenAt (setting_in standing.now) (list_in standing.now) column result }
 {
-    sight_of(standing.naming(), column, standing.statements())
+    let view = View {
+        naming: standing.naming(),
+        column,
+    };
+    view.sight(&[standing.statements()])
 }

@@ -11,7 +11,7 @@ use crate::names::is_within;
 use crate::room::{MOST, Room};
 use crate::standing::Standing;
 use column::Naming;
-use decision::fits;
+use decision::Trial;
 use statement::Statement;
 
 /// How many tables there can be.
@@ -52,7 +52,13 @@ impl Standing {
         if !is_within(self.tables, &self.naming, offered) {
             return false;
         }
-        fits(&self.naming, offered, &[], self.list.as_slice())
+        let trial = Trial {
+            naming: &self.naming,
+            offered,
+            kept: &[],
+            rest: self.list.as_slice(),
+        };
+        trial.fits()
     }
 
     /// Adds a statement at the end, if there is a place for it and it fits with those that stand.

@@ -12,13 +12,13 @@ loop-k-preserved c =
     let s = c.args.standing.now in
     let links = c.loop-k.links in
     let k = c.loop-k.k in
-    let link = c.link_at.result in
+    let link = c.link.result in
     let fits = s.short in
     let many = s.list.ok.0 in
     let held = ap length c.statements-list.ensures in (
       length-set links k link ∙ c.loop-k.invariant.0,
       gathered_more (link_at (setting_of c.naming-naming.result.now) c.args.column) c.statements-list.result.now links k _ link
-          c.loop-k-test.true (omega (arith, fits, many, held, c.loop-k-test.true, c.loop-k.invariant.0)) c.loop-k.invariant.1 c.link_at.ensures,
+          c.loop-k-test.true (omega (arith, fits, many, held, c.loop-k-test.true, c.loop-k.invariant.0)) c.loop-k.invariant.1 c.link.ensures,
     )
 
 pub invariant_of-result : goal.invariant_of-result
