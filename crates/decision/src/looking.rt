@@ -33,6 +33,7 @@ fn note_classes(named: &mut [bool; 64], naming: &Naming, xs: &[Statement])
 
 impl Trial<'_> {
     /// The sight of a column of the list.
+    #[inline(always)]
     pub(crate) fn sight(&self, column: Column) -> Sight
         ensures { SeenAt (setting self.now) (tried self.now) column result }
     {
