@@ -72,9 +72,6 @@ module _ (naming : Naming) (offered : Statement) (list : List Statement) (readab
     pub lent_readable : Readable w (given offered kept' rest')
     lent_readable = rw (same, take_rest) (readable_part w offered (kept ++ drop p list) list b.within readable)
 
-    pub lent_fails : fits (kept' ++ rest') ≡ false
-    lent_fails = rw (same, take_rest) b.fails
-
     found_in : (answer : Option ℕ) → Found fits kept' rest' answer → Found fits kept (drop p list) answer
     found_in answer found =
         subst₂ (λ (ks ys : List Statement). Found fits ks ys answer) same (take_rest list p) found

@@ -14,11 +14,6 @@ module _ {X : Type 0} where
   pub drop_within : (i : ℕ) (xs : List X) → Within (drop i xs) xs
   drop_within i xs x m = subst (Member x) (take-append-drop i xs) (member_right x (take i xs) (drop i xs) m)
 
-  -- where what is kept fits by itself and not with the rest, there is a rest
-  pub some_rest : (fits : List X → Bool) (kept rest : List X) → fits (kept ++ rest) ≡ false → fits (kept ++ []) ≡ true → 0 < length rest
-  some_rest fits kept [] h e = absurd (both_ways (fits (kept ++ [])) h e)
-  some_rest fits kept (x ∷ rest) h e = omega arith
-
   -- one step of the pass
   module _ (fits : List X → Bool) (before : List X) (n : ℕ) (x : X) (rest : List X) where
     staying_omits : fits (before ++ rest) ≡ false → staying fits before n (x ∷ rest) ≡ staying fits before (suc n) rest

@@ -23,6 +23,7 @@ impl Sights<'_> {
     pub(crate) fn bears_out(&self, x: Statement) -> bool
         ensures { result ≡ is_borne_out self.now (difference_of x) }
     {
+        // Not by `is_none_or`: with a pair for its closure the proof did not close.
         let Some((a, b)) = difference(x) else {
             return true;
         };

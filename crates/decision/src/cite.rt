@@ -96,7 +96,6 @@ fn citation_of(list: &[u16]) -> Citation
     requires { length list.now ≤ 512 }
     ensures { result ≡ citation list.now }
 {
-    // An array with a count, whose rest is 0: a citation is plain data, and tests compare all of it.
     let mut positions = [0; MOST];
     positions[..list.len()].copy_from_slice(list);
     Citation {
@@ -111,7 +110,8 @@ fn all(count: usize) -> Citation
     ensures { result ≡ citation (range_with_len 1 count) }
 {
     let mut positions: Bounded<u16, MOST> = Bounded::new(0);
-    // A range without its end: the proof for `1..=count` has the last turn apart, and is longer.
+    // Not by `from_fn`: its contract says too little of a closure that borrows the count. Nor `1..=count`, whose last turn the
+    // proof has apart.
     for position in 1..count + 1 {
         let _ = positions.push(position as u16);
     }
