@@ -1,21 +1,21 @@
 -- What one more mark does to the readings of groups, and to whether they clash.
-use Rattle.std.proofs.Common.{◌≡◌, ℕ, ◌<◌, Bool, true, false, cond, not, ◌&&◌, ◌||◌, eqb, ltb, ◌≢◌, ◌⊎◌, List, [], ◌∷◌, ◌++◌, length, get_or, set, replicate, Some, None, Option, sym, refl, ap, ◌∙◌, subst, inl, inr, arith}
+use Rattle.std.proofs.Common.{◌≡◌, ℕ, ◌<◌, Bool, true, false, cond, not, ◌||◌, eqb, ◌≢◌, ◌⊎◌, List, [], ◌∷◌, ◌++◌, length, get_or, set, replicate, Some, None, Option, sym, refl, ap, ◌∙◌, subst, inl, inr, arith}
 use Rattle.std.proofs.lemmas.List.{get_or_default, get_or_past, get_or-replicate, get_or-set_other, get_or-set_same, length-replicate}
-use Rattle.std.proofs.lemmas.Bool.{and_from, and_parts, both_ways, cases_Bool, cases_eq, cases_lt, eq-eqb, eqb-false, false≢true, lt-ltb, ne_eqb, not_from_false, not-true, or_cases, or_left, or_right}
+use Rattle.std.proofs.lemmas.Bool.{both_ways, cases_Bool, cases_eq, cases_lt, eqb-false, false≢true, ne_eqb, not-true, or_cases, or_left, or_right}
 use Rattle.links.specs.Chains.{joined, lowest_joined}
 use Rattle.links.specs.Groups.{Roots, root_of}
 use Rattle.links.specs.Lists.{Member}
 use Rattle.links.proofs.Lists.{member_cases, member_left, member_right}
-use Rattle.links.proofs.Reach.{joined_finds, joined_through, joined_turn}
+use Rattle.links.proofs.Reach.{joined_finds, joined_self, joined_through, joined_turn}
 use Rattle.links.proofs.Roots.{lowest_back as joined_back, lowest-le as joined-le, lowest_same as joined_same}
 use Rattle.arrangement.specs.Meaning.{Lawful, Meaning, lowest, same}
 use Rattle.arrangement.specs.Laws.{same_answer}
-use Rattle.arrangement.specs.Lowest.{lowest_back, lowest-le, lowest_same}
-use Rattle.meaning.specs.Answers.{first_that, known_by, or_else, reading_in}
+use Rattle.arrangement.specs.Lowest.{lowest_back, lowest_same}
+use Rattle.meaning.specs.Answers.{first_that, known_by, reading_in}
 use Rattle.meaning.specs.Columns.{Clash}
 use Rattle.meaning.proofs.Known.{Marked, Unmarked, known_cases}
 use Rattle.meaning.proofs.Lists.{none_some}
-use Rattle.column.specs.Sights.{SeenBy, mark_of, marked_clash, marked_marks}
+use Rattle.column.specs.Sights.{SeenBy, differs, first_mark, mark_of, marked_clash, marked_marks}
 
 -- the first of a longer list
 module _ {X : Type 0} (p : X → Bool) where
@@ -68,26 +68,14 @@ module _ (m : Meaning) (L M : List (ℕ × ℕ)) where
     none_more : (s : ℕ) → Unmarked m L M s → known_by m L N s ≡ reading_in m (cond (joined L s t) (Some (t, v)) None)
     none_more s r = ap (reading_in m) (first_later (λ p. joined L s p.0) M ((t, v) ∷ []) (none_first s r))
 
-module _ (m : Meaning) (law : Lawful m) (L M : List (ℕ × ℕ)) (root stored : List ℕ) (clash : Bool)
+module _ (m : Meaning) (law : Lawful m) (L M : List (ℕ × ℕ)) (root : List ℕ) (stored : List (Option ℕ)) (clash : Bool)
     (seen : SeenBy m L M root stored clash) (long : length root ≡ 128) (wide : length stored ≡ 128) where
   pub root_is : (t : ℕ) → t < 128 → root_of root t ≡ lowest_joined L t
   root_is t l = get_or_default root t t 0 (omega arith) ∙ seen.roots.low t l
 
   -- what is stored for a group is its reading
-  pub mark_is : (t : ℕ) → t < 128 → mark_of root stored t ≡ or_else (known_by m L M t) 64
-  mark_is t l = ap (λ (r : ℕ). get_or stored r 64) (root_is t l) ∙ seen.known t l
-
-  low_name : (v : ℕ) → v < m.size → lowest m v < 64
-  low_name v l = omega (arith, lowest-le m law v, law.small)
-
-  pub mark_some : (t : ℕ) → t < 128 → (r : Marked m L M t) → mark_of root stored t ≡ lowest m r.mark.1
-  mark_some t l r = mark_is t l ∙ ap (λ o. or_else o 64) r.is
-
-  pub mark_none : (t : ℕ) → t < 128 → Unmarked m L M t → mark_of root stored t ≡ 64
-  mark_none t l r = mark_is t l ∙ ap (λ o. or_else o 64) r.is
-
-  pub mark_not_none : (t : ℕ) → t < 128 → Marked m L M t → mark_of root stored t ≡ 64 → ⊥
-  mark_not_none t l r e = omega (arith, low_name r.mark.1 (seen.named r.mark r.among).1, mark_some t l r, e)
+  pub mark_is : (t : ℕ) → t < 128 → mark_of root stored t ≡ known_by m L M t
+  mark_is t l = ap (λ (r : ℕ). get_or stored r None) (root_is t l) ∙ seen.known t l
 
   -- One more mark, of table t with reading v.
   module _ (t v : ℕ) (lt : t < 128) (lv : v < m.size) where
@@ -97,11 +85,11 @@ module _ (m : Meaning) (law : Lawful m) (L M : List (ℕ × ℕ)) (root stored :
     abbrev More : List (ℕ × ℕ)
     More = M ++ (t, v) ∷ []
 
-    abbrev after : List ℕ
-    after = marked_marks root stored t (lowest m v)
+    abbrev after : List (Option ℕ)
+    after = marked_marks root stored t c
 
     abbrev new_clash : Bool
-    new_clash = marked_clash root stored t (lowest m v)
+    new_clash = marked_clash root stored t c
 
     old_in : (p : ℕ × ℕ) → Member p M → Member p More
     old_in p k = member_left p M ((t, v) ∷ []) k
@@ -124,39 +112,20 @@ module _ (m : Meaning) (law : Lawful m) (L M : List (ℕ × ℕ)) (root stored :
           | inr e ↦ subst (λ (p : ℕ × ℕ). (p.0 < 128) × (p.1 < m.size)) e (lt, lv)
         ]
 
-    -- the table stays as it is where the group is marked
-    after_kept : (mark_of root stored t ≡ 64 → ⊥) → after ≡ stored
-    after_kept ne =
-        ap (λ b. cond b (cond (eqb (mark_of root stored t) 64) (set stored (root_of root t) c) stored) stored) (lt-ltb t 128 lt)
-        ∙ ap (λ b. cond b (set stored (root_of root t) c) stored) (ne_eqb (mark_of root stored t) 64 ne)
+    after_is : after ≡ set stored (lowest_joined L t) (first_mark (known_by m L M t) c)
+    after_is =
+        ap (λ (r : ℕ). set stored r (first_mark (mark_of root stored t) c)) (root_is t lt)
+        ∙ ap (λ (o : Option ℕ). set stored (lowest_joined L t) (first_mark o c)) (mark_is t lt)
 
-    after_set : mark_of root stored t ≡ 64 → after ≡ set stored (lowest_joined L t) c
-    after_set e =
-        ap (λ b. cond b (cond (eqb (mark_of root stored t) 64) (set stored (root_of root t) c) stored) stored) (lt-ltb t 128 lt)
-        ∙ ap (λ b. cond b (set stored (root_of root t) c) stored) (eq-eqb (mark_of root stored t) 64 e)
-        ∙ ap (λ (r : ℕ). set stored r c) (root_is t lt)
-
-    -- where the group is marked already, every group keeps its reading
-    known_marked : Marked m L M t → (s : ℕ) → known_by m L More s ≡ known_by m L M s
-    known_marked r s =
-        elim (known_cases m L M s) [
-          | inl q ↦ some_stays m L M t v s q
-          | inr q ↦
-              let apart : joined L s t ≡ false = elim (cases_Bool (joined L s t)) [
-                | inl j ↦ absurd (q.never r.mark r.among (joined_through L s t r.mark.0 j r.chain))
-                | inr j ↦ j
-              ] in
-              none_more m L M t v s q ∙ ap (λ b. reading_in m (cond b (Some (t, v)) None)) apart ∙ sym q.is
+    -- the group of t keeps its reading, or gets the new one
+    known_itself : known_by m L More t ≡ first_mark (known_by m L M t) c
+    known_itself =
+        elim (known_cases m L M t) [
+          | inl r ↦ some_stays m L M t v t r ∙ r.is ∙ sym (ap (λ (o : Option ℕ). first_mark o c) r.is)
+          | inr r ↦
+              none_more m L M t v t r ∙ ap (λ b. reading_in m (cond b (Some (t, v)) None)) (joined_self L t)
+              ∙ sym (ap (λ (o : Option ℕ). first_mark o c) r.is)
         ]
-
-    -- where it is not, the group of t gets the reading
-    known_unmarked : Unmarked m L M t → (s : ℕ) → joined L s t ≡ true → known_by m L More s ≡ Some c
-    known_unmarked r s j =
-        let q : Unmarked m L M s = record {
-          never = λ p k h. r.never p k (joined_through L t s p.0 (joined_turn L s t j) h);
-          is = known_joined m L M s t j ∙ r.is;
-        } in
-        none_more m L M t v s q ∙ ap (λ b. reading_in m (cond b (Some (t, v)) None)) j
 
     known_apart : (s : ℕ) → joined L s t ≡ false → known_by m L More s ≡ known_by m L M s
     known_apart s j =
@@ -165,26 +134,26 @@ module _ (m : Meaning) (law : Lawful m) (L M : List (ℕ × ℕ)) (root stored :
           | inr q ↦ none_more m L M t v s q ∙ ap (λ b. reading_in m (cond b (Some (t, v)) None)) j ∙ sym q.is
         ]
 
-    known_after : (s : ℕ) → s < 128 → get_or after (lowest_joined L s) 64 ≡ or_else (known_by m L More s) 64
-    known_after s ls = go (known_cases m L M t) (cases_Bool (joined L s t))
+    known_after : (s : ℕ) → s < 128 → get_or after (lowest_joined L s) None ≡ known_by m L More s
+    known_after s ls = ap (λ (l : List (Option ℕ)). get_or l (lowest_joined L s) None) after_is ∙ go (cases_Bool (joined L s t))
       where
-        go : Marked m L M t ⊎ Unmarked m L M t → (joined L s t ≡ true) ⊎ (joined L s t ≡ false)
-            → get_or after (lowest_joined L s) 64 ≡ or_else (known_by m L More s) 64
-        go (inl r) _ =
-            ap (λ (l : List ℕ). get_or l (lowest_joined L s) 64) (after_kept (mark_not_none t lt r)) ∙ seen.known s ls
-            ∙ ap (λ o. or_else o 64) (sym (known_marked r s))
-        go (inr r) (inl j) =
-            ap (λ (l : List ℕ). get_or l (lowest_joined L s) 64) (after_set (mark_none t lt r))
-            ∙ ap (λ (i : ℕ). get_or (set stored (lowest_joined L t) c) i 64) (joined_same L s t j)
-            ∙ get_or-set_same stored (lowest_joined L t) c 64 (omega (arith, joined-le L t))
-            ∙ ap (λ o. or_else o 64) (sym (known_unmarked r s j))
-        go (inr r) (inr j) =
+        here : Option ℕ
+        here = first_mark (known_by m L M t) c
+
+        go : (joined L s t ≡ true) ⊎ (joined L s t ≡ false) → get_or (set stored (lowest_joined L t) here) (lowest_joined L s) None ≡ known_by m L More s
+        go (inl j) =
+            ap (λ (i : ℕ). get_or (set stored (lowest_joined L t) here) i None) (joined_same L s t j)
+            ∙ get_or-set_same stored (lowest_joined L t) here None (omega (arith, joined-le L t))
+            ∙ sym (known_joined m L More s t j ∙ known_itself)
+        go (inr j) =
             let ne : lowest_joined L s ≢ lowest_joined L t = λ e. both_ways (joined L s t) j (joined_back L s t e) in
-            ap (λ (l : List ℕ). get_or l (lowest_joined L s) 64) (after_set (mark_none t lt r))
-            ∙ get_or-set_other stored (lowest_joined L t) (lowest_joined L s) c 64 ne
-            ∙ seen.known s ls ∙ ap (λ o. or_else o 64) (sym (known_apart s j))
+            get_or-set_other stored (lowest_joined L t) (lowest_joined L s) here None ne
+            ∙ seen.known s ls ∙ sym (known_apart s j)
 
     -- Clashes.
+
+    clash_is : new_clash ≡ differs (known_by m L M t) c
+    clash_is = ap (λ (o : Option ℕ). differs o c) (mark_is t lt)
 
     clash_old : Clash m L M → Clash m L More
     clash_old x = record {
@@ -198,23 +167,23 @@ module _ (m : Meaning) (law : Lawful m) (L M : List (ℕ × ℕ)) (root stored :
 
     new_clash_has : new_clash ≡ true → Clash m L More
     new_clash_has h =
-        let both = (and_parts (ltb t 128) (not (eqb (mark_of root stored t) 64) && not (eqb (mark_of root stored t) c)) h).1 in
-        let each = and_parts (not (eqb (mark_of root stored t) 64)) (not (eqb (mark_of root stored t) c)) both in
         elim (known_cases m L M t) [
-          | inl r ↦ record {
-            p = r.mark;
-            q = (t, v);
-            marked_p = old_in r.mark r.among;
-            marked_q = new_in;
-            chain = (joined_finds L r.mark.0 t).0 (joined_turn L t r.mark.0 r.chain);
-            unlike = elim (cases_Bool (same m r.mark.1 v)) [
-              | inl e ↦
-                  absurd (eqb-false (mark_of root stored t) c (not-true (eqb (mark_of root stored t) c) each.1)
-                  (mark_some t lt r ∙ lowest_same m law r.mark.1 v e))
-              | inr e ↦ e
-            ];
-          }
-          | inr r ↦ absurd (eqb-false (mark_of root stored t) 64 (not-true (eqb (mark_of root stored t) 64) each.0) (mark_none t lt r))
+          | inl r ↦
+              let unequal : not (eqb (lowest m r.mark.1) c) ≡ true =
+              sym (ap (λ (o : Option ℕ). differs o c) r.is) ∙ sym clash_is ∙ h in
+              record {
+                p = r.mark;
+                q = (t, v);
+                marked_p = old_in r.mark r.among;
+                marked_q = new_in;
+                chain = (joined_finds L r.mark.0 t).0 (joined_turn L t r.mark.0 r.chain);
+                unlike = elim (cases_Bool (same m r.mark.1 v)) [
+                  | inl e ↦
+                      absurd (eqb-false (lowest m r.mark.1) c (not-true (eqb (lowest m r.mark.1) c) unequal) (lowest_same m law r.mark.1 v e))
+                  | inr e ↦ e
+                ];
+              }
+          | inr r ↦ absurd (false≢true (sym (ap (λ (o : Option ℕ). differs o c) r.is) ∙ sym clash_is ∙ h))
         ]
 
     -- a mark that the new one clashes with makes the flag rise, or clashes with the group's own
@@ -223,16 +192,13 @@ module _ (m : Meaning) (law : Lawful m) (L M : List (ℕ × ℕ)) (root stored :
         elim (known_cases m L M t) [
           | inr r ↦ absurd (r.never p k (joined_turn L p.0 t j))
           | inl r ↦
-              elim (cases_eq (mark_of root stored t) c) [
+              let z = r.mark in
+              elim (cases_eq (lowest m z.1) c) [
                 | inr ne ↦
                     or_right clash new_clash
-                    (and_from (ltb t 128) (not (eqb (mark_of root stored t) 64) && not (eqb (mark_of root stored t) c)) (lt-ltb t 128 lt)
-                    (and_from (not (eqb (mark_of root stored t) 64)) (not (eqb (mark_of root stored t) c))
-                    (not_from_false (eqb (mark_of root stored t) 64) (ne_eqb (mark_of root stored t) 64 (mark_not_none t lt r)))
-                    (not_from_false (eqb (mark_of root stored t) c) (ne_eqb (mark_of root stored t) c ne))))
+                    (clash_is ∙ ap (λ (o : Option ℕ). differs o c) r.is ∙ ap not (ne_eqb (lowest m z.1) c ne))
                 | inl e ↦
-                    let z = r.mark in
-                    let z-v = lowest_back m law z.1 v (seen.named z r.among).1 lv (sym (mark_some t lt r) ∙ e) in
+                    let z-v = lowest_back m law z.1 v (seen.named z r.among).1 lv e in
                     or_left clash new_clash (seen.clashes.1 (record {
                       p = p;
                       q = z;
@@ -281,20 +247,18 @@ module _ (m : Meaning) (law : Lawful m) (L M : List (ℕ × ℕ)) (root stored :
       );
     }
 
--- a table with no marks
-pub blank : (n r v : ℕ) → get_or (replicate n v) r v ≡ v
-blank n r v =
-    elim (cases_lt r n) [
-      | inl l ↦ get_or-replicate n r v v l
-      | inr l ↦ get_or_past (replicate n v) r v (simp length-replicate (omega arith))
-    ]
-
 -- with no marks nothing is known, and nothing clashes
-pub seen_none : (m : Meaning) (L : List (ℕ × ℕ)) (root stored : List ℕ) → Roots L root → ((r : ℕ) → get_or stored r 64 ≡ 64)
-    → SeenBy m L [] root stored false
-seen_none m L root stored roots blank = record {
+pub seen_none : (m : Meaning) (L : List (ℕ × ℕ)) (root : List ℕ) → Roots L root → SeenBy m L [] root (replicate 128 None) false
+seen_none m L root roots = record {
   roots = roots;
   named = λ p k. elim k [ ];
   known = λ t l. blank (lowest_joined L t);
   clashes = ((λ h. absurd (false≢true h)), (λ x. absurd x.marked_p));
 }
+  where
+    blank : (r : ℕ) → get_or {A = Option ℕ} (replicate 128 None) r None ≡ None
+    blank r =
+        elim (cases_lt r 128) [
+          | inl l ↦ get_or-replicate 128 r None None l
+          | inr l ↦ get_or_past (replicate 128 None) r None (simp length-replicate (omega arith))
+        ]

@@ -1,7 +1,11 @@
 -- What statements give, part by part.
-use Rattle.std.proofs.Common.{◌≡◌, ℕ, zero, suc, ◌+◌, ◌<◌, ◌≤◌, List, [], ◌∷◌, ◌++◌, map, length, get_or, take, Some, None, Option, sym, refl, ap, ◌∙◌, inl, inr, append_assoc, arith}
-use Rattle.std.proofs.lemmas.List.{append-nil, take_all, take_more}
-use Rattle.links.specs.Lists.{Member, present}
+use Rattle.std.proofs.Common.{◌≡◌, ℕ, zero, suc, ◌+◌, ◌<◌, ◌≤◌, Bool, ◌&&◌, List, [], ◌∷◌, ◌++◌, map, length, get_or, take, Some, None, Option, sym, refl, ap, ◌∙◌, inl, inr, append_assoc, arith}
+use Rattle.std.specs.List.{flat_map, list_all}
+use Rattle.std.proofs.lemmas.List.Recursion.{same_from_clauses}
+use Rattle.std.proofs.lemmas.List.{append-nil, flat_map_more, take_all, take_more}
+use Rattle.links.specs.Lists.{Member, all_of, present}
+use Rattle.links.proofs.Lists.{member_left, member_right}
+use Rattle.meaning.specs.Theorems.{Within}
 
 pub member_at : {X : Type 0} (xs : List X) (i : ℕ) (d : X) → i < length xs → Member (get_or xs i d) xs
 member_at [] i d l = absurd (omega arith)
@@ -31,9 +35,22 @@ module _ {X Y : Type 0} (f : X → Option Y) where
   pub given_all : (M : List Y) (xs : List X) (i : ℕ) → length xs ≤ i → M ++ present (map f (take i xs)) ≡ M ++ present (map f xs)
   given_all M xs i l = ap (λ ys. M ++ present (map f ys)) (take_all i xs l)
 
-  -- one, then two lists
-  pub given_three : (x : X) (xs ys : List X)
-      → (([] ++ present (map f (x ∷ []))) ++ present (map f xs)) ++ present (map f ys) ≡ present (map f (x ∷ (xs ++ ys)))
-  given_three x xs ys =
-      append_assoc (present (map f (x ∷ []))) (present (map f xs)) (present (map f ys))
-      ∙ ap (λ l. present (map f (x ∷ [])) ++ l) (sym (given-append xs ys)) ∙ sym (given-append (x ∷ []) (xs ++ ys))
+  -- the step of a loop that goes through a list part by part
+  pub given_part : {Z : Type 0} (g : Z → List X) (M : List Y) (parts : List Z) (i : ℕ) (d : Z) → i < length parts
+      → (M ++ present (map f (flat_map g (take i parts)))) ++ present (map f (g (get_or parts i d)))
+      ≡ M ++ present (map f (flat_map g (take (i + 1) parts)))
+  given_part g M parts i d l =
+      append_assoc M (present (map f (flat_map g (take i parts)))) (present (map f (g (get_or parts i d))))
+      ∙ ap (λ ys. M ++ ys)
+      (sym (given-append (flat_map g (take i parts)) (g (get_or parts i d)))
+      ∙ ap (λ ys. present (map f ys)) (flat_map_more g [] (take i parts) (get_or parts i d) ∙ ap (flat_map g) (sym (take_more parts i d l))))
+
+-- what holds of all that the parts make holds of each part
+pub part_within : {X Z : Type 0} (g : Z → List X) (parts : List Z) (i : ℕ) (d : Z) → i < length parts → Within (g (get_or parts i d)) (flat_map g parts)
+part_within g [] i d l x m = absurd (omega arith)
+part_within g (p ∷ ps) zero d l x m = member_left x (g p) (flat_map g ps) m
+part_within g (p ∷ ps) (suc i) d l x m = member_right x (g p) (flat_map g ps) (part_within g ps i d (omega arith) x m)
+
+-- a test of all, as std says it
+pub all_is : {X : Type 0} (p : X → Bool) (xs : List X) → list_all p xs ≡ all_of p xs
+all_is p = same_from_clauses (list_all p) (all_of p) (λ x b. p x && b) refl (λ x xs. refl) (λ x xs. refl)

@@ -1,6 +1,6 @@
 -- What a sight tells of the column.
-use Rattle.std.proofs.Common.{◌≡◌, ℕ, ◌<◌, Bool, true, false, cond, not, ◌&&◌, ◌||◌, eqb, ltb, ◌⊎◌, List, [], ◌∷◌, ◌++◌, Some, None, sym, refl, ap, ◌∙◌, subst, inl, inr}
-use Rattle.std.proofs.lemmas.Bool.{and_from, and_parts, both_ways, cases_Bool, eq-eqb, eqb-false, eqb-true, ltb-true, ne_eqb, not_from_false, not-true, or_cases, or_left, or_right}
+use Rattle.std.proofs.Common.{◌≡◌, ℕ, ◌<◌, Bool, true, false, cond, ◌||◌, eqb, ltb, ◌⊎◌, List, [], ◌∷◌, ◌++◌, Some, None, Option, sym, refl, ap, ap₂, ◌∙◌, subst, inl, inr}
+use Rattle.std.proofs.lemmas.Bool.{and_parts, both_ways, cases_Bool, eq-eqb, eqb-true, false≢true, ltb-true, or_cases, or_left, or_right}
 use Rattle.links.specs.Chains.{joined, lowest_joined}
 use Rattle.links.specs.Groups.{root_of}
 use Rattle.links.specs.Lists.{Member, all_of}
@@ -21,16 +21,10 @@ use Rattle.meaning.proofs.Lists.{none_some, some_inj}
 use Rattle.meaning.proofs.Sound.{mark_reading, reading_named}
 use Rattle.meaning.proofs.Marks.{alike_means, clash_from, clash_has}
 use Rattle.column.specs.declared.sight.Sight.{Sight}
-use Rattle.column.specs.Sights.{Readable, Seen, SeenBy, given, mark_of, marked_clash, marked_marks, reading_of, seem_alike}
-use Rattle.column.proofs.Noting.{mark_none, mark_not_none, mark_some, root_is, seen_more}
+use Rattle.column.specs.Sights.{Readable, Seen, SeenBy, both_are, given, marked_clash, marked_marks, reading_of, seem_alike}
+use Rattle.column.proofs.Noting.{mark_is, root_is, seen_more}
 
 module _ (m : Meaning) (law : Lawful m) (L M : List (ℕ × ℕ)) (s : Sight) (seen : Seen m L M s) where
-  abbrev root : List ℕ
-  root = s.groups.root
-
-  abbrev mark : ℕ → ℕ
-  mark t = mark_of s.groups.root s.marks t
-
   pub clash_is : s.clash ≡ clash m L M
   clash_is =
       same_answer s.clash (clash m L M)
@@ -40,18 +34,7 @@ module _ (m : Meaning) (law : Lawful m) (L M : List (ℕ × ℕ)) (s : Sight) (s
   lowest_is t l = root_is m law L M s.groups.root s.marks s.clash seen s.groups.long s.long t l
 
   pub reading_is : (t : ℕ) → t < 128 → reading_of s t ≡ known_by m L M t
-  reading_is t l =
-      let root = s.groups.root in
-      elim (known_cases m L M t) [
-        | inl r ↦
-            ap (λ b. cond b None (Some (mark t)))
-            (ne_eqb (mark t) 64 (mark_not_none m law L M root s.marks s.clash seen s.groups.long s.long t l r))
-            ∙ ap Some (mark_some m law L M root s.marks s.clash seen s.groups.long s.long t l r) ∙ sym r.is
-        | inr r ↦
-            ap (λ b. cond b None (Some (mark t)))
-            (eq-eqb (mark t) 64 (mark_none m law L M root s.marks s.clash seen s.groups.long s.long t l r))
-            ∙ sym r.is
-      ]
+  reading_is t l = mark_is m law L M s.groups.root s.marks s.clash seen s.groups.long s.long t l
 
   -- where nothing clashes, tables are alike exactly when they seem so
   module _ (calm : s.clash ≡ false) (a b : ℕ) (la : a < 128) (lb : b < 128) where
@@ -59,7 +42,7 @@ module _ (m : Meaning) (law : Lawful m) (L M : List (ℕ × ℕ)) (s : Sight) (s
     one_group = eqb (root_of s.groups.root a) (root_of s.groups.root b)
 
     abbrev one_mark : Bool
-    one_mark = not (eqb (mark a) 64) && eqb (mark a) (mark b)
+    one_mark = both_are (reading_of s a) (reading_of s b)
 
     marks_agree : (p q : ℕ × ℕ) → Member p M → Member q M → joined L p.0 q.0 ≡ true → same m p.1 q.1 ≡ true
     marks_agree p q k l j =
@@ -76,54 +59,40 @@ module _ (m : Meaning) (law : Lawful m) (L M : List (ℕ × ℕ)) (s : Sight) (s
         ]
 
     -- a table that a chain joins to a mark has that mark's reading
-    mark_of_lem : (t : ℕ) → t < 128 → (p : ℕ × ℕ) → Member p M → joined L t p.0 ≡ true → (mark t ≡ lowest m p.1) × (mark t ≡ 64 → ⊥)
-    mark_of_lem t l p k j =
-        let root = s.groups.root in
+    reading_by : (t : ℕ) → t < 128 → (p : ℕ × ℕ) → Member p M → joined L t p.0 ≡ true → reading_of s t ≡ Some (lowest m p.1)
+    reading_by t l p k j =
         elim (known_cases m L M t) [
-          | inl r ↦ (
-            mark_some m law L M root s.marks s.clash seen s.groups.long s.long t l r
-                ∙ lowest_same m law r.mark.1 p.1
-                (marks_agree r.mark p r.among k (joined_through L r.mark.0 t p.0 (joined_turn L t r.mark.0 r.chain) j)),
-            mark_not_none m law L M root s.marks s.clash seen s.groups.long s.long t l r,
-          )
+          | inl r ↦
+              reading_is t l ∙ r.is
+              ∙ ap (λ (c : ℕ). Some c) (lowest_same m law r.mark.1 p.1
+              (marks_agree r.mark p r.among k (joined_through L r.mark.0 t p.0 (joined_turn L t r.mark.0 r.chain) j)))
           | inr r ↦ absurd (r.never p k j)
         ]
 
     seem_from : TablesAlike m L M a b → seem_alike s a b ≡ true
     seem_from (inl chain) =
         or_left one_group one_mark
-        (eq-eqb (root_of root a) (root_of root b)
+        (eq-eqb (root_of s.groups.root a) (root_of s.groups.root b)
         (lowest_is a la ∙ joined_same L a b ((joined_finds L a b).1 chain) ∙ sym (lowest_is b lb)))
     seem_from (inr r) =
-        let x = mark_of_lem a la r.p r.marked_p ((joined_finds L a r.p.0).1 r.chain_a) in
-        let y = mark_of_lem b lb r.q r.marked_q ((joined_finds L b r.q.0).1 r.chain_b) in
+        let x = reading_by a la r.p r.marked_p ((joined_finds L a r.p.0).1 r.chain_a) in
+        let y = reading_by b lb r.q r.marked_q ((joined_finds L b r.q.0).1 r.chain_b) in
         or_right one_group one_mark
-        (and_from (not (eqb (mark a) 64)) (eqb (mark a) (mark b)) (not_from_false (eqb (mark a) 64) (ne_eqb (mark a) 64 x.1))
-        (eq-eqb (mark a) (mark b) (x.0 ∙ lowest_same m law r.p.1 r.q.1 r.alike ∙ sym y.0)))
+        (ap (λ o. both_are o (reading_of s b)) x ∙ ap (both_are (Some (lowest m r.p.1))) y
+        ∙ eq-eqb (lowest m r.p.1) (lowest m r.q.1) (lowest_same m law r.p.1 r.q.1 r.alike))
 
     seem_has : seem_alike s a b ≡ true → TablesAlike m L M a b
     seem_has h =
         elim (or_cases one_group one_mark h) [
           | inl e ↦
               inl ((joined_finds L a b).0
-              (joined_back L a b (sym (lowest_is a la) ∙ eqb-true (root_of root a) (root_of root b) e ∙ lowest_is b lb)))
-          | inr e ↦
-              let each = and_parts (not (eqb (mark a) 64)) (eqb (mark a) (mark b)) e in
-              marked (eqb-false (mark a) 64 (not-true (eqb (mark a) 64) each.0)) (eqb-true (mark a) (mark b) each.1)
-              (known_cases m L M a) (known_cases m L M b)
+              (joined_back L a b (sym (lowest_is a la) ∙ eqb-true (root_of s.groups.root a) (root_of s.groups.root b) e ∙ lowest_is b lb)))
+          | inr e ↦ marked (known_cases m L M a) (known_cases m L M b) (sym (ap₂ both_are (reading_is a la) (reading_is b lb)) ∙ e)
         ]
       where
-        root' : List ℕ
-        root' = s.groups.root
-
-        some : (t : ℕ) (l : t < 128) (r : Marked m L M t) → mark t ≡ lowest m r.mark.1
-        some t l r = mark_some m law L M s.groups.root s.marks s.clash seen s.groups.long s.long t l r
-
-        none : (t : ℕ) (l : t < 128) → Unmarked m L M t → mark t ≡ 64
-        none t l r = mark_none m law L M s.groups.root s.marks s.clash seen s.groups.long s.long t l r
-
-        marked : (mark a ≡ 64 → ⊥) → mark a ≡ mark b → Marked m L M a ⊎ Unmarked m L M a → Marked m L M b ⊎ Unmarked m L M b → TablesAlike m L M a b
-        marked ne e (inl p) (inl q) =
+        marked : Marked m L M a ⊎ Unmarked m L M a → Marked m L M b ⊎ Unmarked m L M b
+            → both_are (known_by m L M a) (known_by m L M b) ≡ true → TablesAlike m L M a b
+        marked (inl p) (inl q) e =
             inr (record {
               p = p.mark;
               q = q.mark;
@@ -132,10 +101,10 @@ module _ (m : Meaning) (law : Lawful m) (L M : List (ℕ × ℕ)) (s : Sight) (s
               chain_a = (joined_finds L a p.mark.0).0 p.chain;
               chain_b = (joined_finds L b q.mark.0).0 q.chain;
               alike = lowest_back m law p.mark.1 q.mark.1 (seen.named p.mark p.among).1 (seen.named q.mark q.among).1
-                  (sym (some a la p) ∙ e ∙ some b lb q);
+                  (eqb-true (lowest m p.mark.1) (lowest m q.mark.1) (sym (ap₂ both_are p.is q.is) ∙ e));
             })
-        marked ne e (inr p) q = absurd (ne (none a la p))
-        marked ne e (inl p) (inr q) = absurd (ne (e ∙ none b lb q))
+        marked (inr p) q e = absurd (false≢true (sym (ap (λ o. both_are o (known_by m L M b)) p.is) ∙ e))
+        marked (inl p) (inr q) e = absurd (false≢true (sym (ap₂ both_are p.is q.is) ∙ e))
 
     pub alike_is : seem_alike s a b ≡ alike m L M a b
     alike_is =
@@ -152,7 +121,7 @@ seen_marked m law L M s s' seen t v c lt lv e groups marks clashes =
     let more-c : SeenBy m L (M ++ (t, v) ∷ []) root (marked_marks root s.marks t c) (s.clash || marked_clash root s.marks t c) =
     subst (λ (c : ℕ). SeenBy m L (M ++ (t, v) ∷ []) root (marked_marks root s.marks t c) (s.clash || marked_clash root s.marks t c)) (sym e) more in
     subst (λ (b : Bool). SeenBy m L (M ++ (t, v) ∷ []) s'.groups.root s'.marks b) (sym clashes)
-    (subst (λ (l : List ℕ). SeenBy m L (M ++ (t, v) ∷ []) s'.groups.root l (s.clash || marked_clash root s.marks t c)) (sym marks)
+    (subst (λ (l : List (Option ℕ)). SeenBy m L (M ++ (t, v) ∷ []) s'.groups.root l (s.clash || marked_clash root s.marks t c)) (sym marks)
     (subst (λ (r : List ℕ). SeenBy m L (M ++ (t, v) ∷ []) r (marked_marks root s.marks t c) (s.clash || marked_clash root s.marks t c))
     (sym (λ i. (groups i).root)) more-c))
 

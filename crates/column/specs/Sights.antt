@@ -1,47 +1,58 @@
 -- What a column shows: groups of tables, the reading of each group, and whether readings clash.
-use Rattle.std.specs.Prelude.{◌≡◌, ℕ, ◌<◌, Bool, true, cond, not, ◌&&◌, ◌||◌, ◌↔◌, List, ◌∷◌, ◌++◌, Some, None, Option, ◌==◌, nat_lt, slice_index_or, slice_set}
+use Rattle.std.specs.Borrow.{Bor}
+use Rattle.std.specs.List.{flat_map}
+use Rattle.std.specs.Prelude.{◌≡◌, ℕ, ◌<◌, Bool, true, false, not, ◌||◌, ◌↔◌, List, ◌∷◌, ◌++◌, Some, None, Option, ◌==◌, slice_index_or, slice_set}
 use Rattle.links.specs.Chains.{lowest_joined}
 use Rattle.links.specs.Groups.{Roots, root_of}
-use Rattle.links.specs.Lists.{Member}
+use Rattle.links.specs.Lists.{Member, all_of}
 use Rattle.arrangement.specs.Meaning.{Meaning}
 use Rattle.statement.specs.declared.Statement.{Statement}
 use Rattle.meaning.specs.declared.column.Column.{Column}
-use Rattle.meaning.specs.Answers.{known_by, or_else}
+use Rattle.meaning.specs.Answers.{known_by}
 use Rattle.meaning.specs.Columns.{Clash, links_at, marks_at}
 use Rattle.meaning.specs.Fillings.{Setting, is_within}
 use Rattle.column.specs.declared.sight.Sight.{Sight}
 
--- what is stored for a table's group: 64 where the group is not marked
-abbrev pub mark_of : List ℕ → List ℕ → ℕ → ℕ
-mark_of root marks t = slice_index_or marks (root_of root t) 64
-
-abbrev pub reading : ℕ → Option ℕ
-reading mark = cond (mark == 64) None (Some mark)
+-- the reading that a table's group is marked with, if it is marked
+abbrev pub mark_of : List ℕ → List (Option ℕ) → ℕ → Option ℕ
+mark_of root marks t = slice_index_or marks (root_of root t) None
 
 abbrev pub reading_of : Sight → ℕ → Option ℕ
-reading_of s t = reading (mark_of s.groups.root s.marks t)
+reading_of s t = mark_of s.groups.root s.marks t
+
+-- are there two readings, and are they the same?
+abbrev pub both_are : Option ℕ → Option ℕ → Bool
+both_are None o = false
+both_are (Some v) None = false
+both_are (Some v) (Some u) = v == u
 
 -- are the tables of one group, or of groups with the same reading?
 abbrev pub seem_alike : Sight → ℕ → ℕ → Bool
 seem_alike s a b =
-    let root = s.groups.root in
-    let mark = mark_of root s.marks a in
-    (root_of root a == root_of root b) || (not (mark == 64) && mark == mark_of root s.marks b)
+    (root_of s.groups.root a == root_of s.groups.root b) || both_are (reading_of s a) (reading_of s b)
 
 -- the first reading of a group stays
-abbrev pub marked_marks : List ℕ → List ℕ → ℕ → ℕ → List ℕ
-marked_marks root marks t c =
-    cond (nat_lt t 128) (cond (mark_of root marks t == 64) (slice_set marks (root_of root t) c) marks) marks
+abbrev pub first_mark : Option ℕ → ℕ → Option ℕ
+first_mark None c = Some c
+first_mark (Some v) c = Some v
+
+-- what is written past the end, for a table that has no group, is dropped
+abbrev pub marked_marks : List ℕ → List (Option ℕ) → ℕ → ℕ → List (Option ℕ)
+marked_marks root marks t c = slice_set marks (root_of root t) (first_mark (mark_of root marks t) c)
 
 -- another reading of a group clashes
-abbrev pub marked_clash : List ℕ → List ℕ → ℕ → ℕ → Bool
-marked_clash root marks t c = nat_lt t 128 && (not (mark_of root marks t == 64) && not (mark_of root marks t == c))
+abbrev pub differs : Option ℕ → ℕ → Bool
+differs None c = false
+differs (Some v) c = not (v == c)
+
+abbrev pub marked_clash : List ℕ → List (Option ℕ) → ℕ → ℕ → Bool
+marked_clash root marks t c = differs (mark_of root marks t) c
 
 -- the groups, readings and the clash are those of these links and marks
-pub record SeenBy (m : Meaning) (links marks : List (ℕ × ℕ)) (root stored : List ℕ) (clash : Bool) : Type 0 where
+pub record SeenBy (m : Meaning) (links marks : List (ℕ × ℕ)) (root : List ℕ) (stored : List (Option ℕ)) (clash : Bool) : Type 0 where
   pub roots : Roots links root
   pub named : (p : ℕ × ℕ) → Member p marks → (p.0 < 128) × (p.1 < m.size)
-  pub known : (t : ℕ) → t < 128 → slice_index_or stored (lowest_joined links t) 64 ≡ or_else (known_by m links marks t) 64
+  pub known : (t : ℕ) → t < 128 → slice_index_or stored (lowest_joined links t) None ≡ known_by m links marks t
   pub clashes : (clash ≡ true) ↔ Clash m links marks
 
 abbrev pub Seen : Meaning → List (ℕ × ℕ) → List (ℕ × ℕ) → Sight → Type 0
@@ -54,6 +65,14 @@ SeenAt w xs k s = Seen w.readings (links_at w xs k) (marks_at w xs k) s
 -- the names of the statements are below the counts, and the tables below 128
 abbrev pub Readable : Setting → List Statement → Type 0
 Readable w xs = (x : Statement) → Member x xs → is_within 128 w x ≡ true
+
+-- are they?
+abbrev pub is_readable : Setting → List Statement → Bool
+is_readable w xs = all_of (is_within 128 w) xs
+
+-- the list that the parts make, one after the other
+abbrev pub whole : List (Bor (List Statement)) → List Statement
+whole parts = flat_map (λ xs. xs.now) parts
 
 -- the offered statement, those kept, and the rest
 abbrev pub given : Statement → List Statement → List Statement → List Statement

@@ -4,10 +4,13 @@
 
 mod acts;
 mod naming;
+mod reading;
 mod sight;
 mod sighting;
+mod view;
 
-pub use acts::{difference, link_at, mark_at, slot_of};
+pub use acts::{difference, slot_of};
 pub use naming::Naming;
+pub use reading::{are_tables_below, is_below, reading_of};
 pub use sight::Sight;
-pub use sighting::{sight_at, sight_of};
+pub use view::View;

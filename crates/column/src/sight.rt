@@ -4,15 +4,12 @@ ghost use Rattle.std.specs.Prelude.{◌≡◌, length};
 
 use links::groups::Groups;
 
-/// Stands for the reading of tables that are joined to no mark: one above all that there can be.
-pub(crate) const UNMARKED: u8 = 64;
-
 /// The groups of tables that are joined at a column, the first reading that each group is marked with, by its lowest name,
 /// and whether some group is marked with another one too.
 #[derive(Clone, Copy)]
 pub struct Sight {
     pub(crate) groups: Groups,
-    pub(crate) marks: [u8; 128],
+    pub(crate) marks: [Option<u8>; 128],
     pub(crate) clash: bool,
     ghost long: { length marks ≡ 128 },
 }

@@ -3,17 +3,15 @@
 ghost use Rattle.std.specs.Prelude.{◌≡◌, ℕ, true, ◌||◌, List, [], ◌∷◌, ◌++◌};
 ghost use Rattle.arrangement.specs.Meaning.{Meaning};
 ghost use Rattle.column.specs.Naming.{setting_of};
-ghost use Rattle.column.specs.Sights.{Readable, Seen, SeenAt, given, mark_of, marked_clash, marked_marks, reading_of, seem_alike};
+ghost use Rattle.column.specs.Sights.{Readable, Seen, SeenAt, marked_clash, marked_marks, reading_of, seem_alike, whole};
 ghost use Rattle.links.specs.Groups.{Roots, root_of};
 ghost use Rattle.links.specs.Lists.{present};
 ghost use Rattle.meaning.specs.Columns.{link_at, links_at, mark_at, marks_at};
 ghost use Rattle.meaning.specs.Fillings.{is_within};
 
-use crate::acts::{link_at, mark_at};
-use crate::naming::Naming;
-use crate::sight::{Sight, UNMARKED};
+use crate::sight::Sight;
+use crate::view::View;
 use links::groups::{Groups, NAMES};
-use meaning::Column;
 use statement::Statement;
 
 impl Sight {
@@ -23,20 +21,8 @@ impl Sight {
     {
         Sight {
             groups,
-            marks: [UNMARKED; 128],
+            marks: [None; 128],
             clash: false,
-        }
-    }
-
-    /// What is stored for a table's group.
-    fn mark(&self, table: u8) -> u8
-        ensures { result ≡ mark_of self.now.groups.root self.now.marks table }
-    {
-        let root = self.lowest(table) as usize;
-        if root < NAMES {
-            self.marks[root]
-        } else {
-            UNMARKED
         }
     }
 
@@ -46,15 +32,11 @@ impl Sight {
         ensures marks { self.new.marks ≡ marked_marks self.old.groups.root self.old.marks table reading }
         ensures clash { self.new.clash ≡ (self.old.clash || marked_clash self.old.groups.root self.old.marks table reading) }
     {
-        if table as usize >= NAMES {
-            return;
-        }
-        let mark = self.mark(table);
-        if mark == UNMARKED {
-            let root = self.lowest(table) as usize;
-            self.marks[root] = reading;
-        } else if mark != reading {
-            self.clash = true;
+        let root = self.lowest(table) as usize;
+        match self.reading(table) {
+            None if root < NAMES => self.marks[root] = Some(reading),
+            Some(first) if first != reading => self.clash = true,
+            _ => {}
         }
     }
 
@@ -69,8 +51,7 @@ impl Sight {
     pub fn reading(&self, table: u8) -> Option<u8>
         ensures { result ≡ reading_of self.now table }
     {
-        let mark = self.mark(table);
-        if mark == UNMARKED { None } else { Some(mark) }
+        *self.marks.get(self.lowest(table) as usize)?
     }
 
     /// The lowest table that the table is joined to.
@@ -84,84 +65,76 @@ impl Sight {
     pub fn are_alike(&self, a: u8, b: u8) -> bool
         ensures { result ≡ seem_alike self.now a b }
     {
-        if self.groups.are_joined(a, b) {
-            return true;
-        }
-        let mark = self.mark(a);
-        if mark == UNMARKED {
-            return false;
-        }
-        mark == self.mark(b)
+        self.groups.are_joined(a, b)
+            || self
+                .reading(a)
+                .is_some_and(|reading| self.reading(b) == Some(reading))
     }
 }
 
-/// Joins the tables that the statement links at the column, if it links two.
-fn add_link_of(groups: &mut Groups, naming: &Naming, column: Column, x: Statement)
-    ensures { (links : List (ℕ × ℕ)) → is_within 128 (setting_of naming.now) x ≡ true → Roots links groups.old.root → Roots (links ++ present (link_at (setting_of naming.now) column x ∷ [])) groups.new.root }
-{
-    if let Some((a, b)) = link_at(naming, column, x) {
-        groups.join(a, b);
-    }
-}
-
-/// Joins the tables that the statements link at the column.
-fn add_links(groups: &mut Groups, naming: &Naming, column: Column, xs: &[Statement])
-    ensures { (links : List (ℕ × ℕ)) → Readable (setting_of naming.now) xs.now → Roots links groups.old.root → Roots (links ++ links_at (setting_of naming.now) xs.now column) groups.new.root }
-{
-    for x in xs {
-        add_link_of(groups, naming, column, *x);
-    }
-}
-
-/// Marks the table that the statement marks at the column, if it marks one.
-fn add_mark_of(sight: &mut Sight, naming: &Naming, column: Column, x: Statement)
-    ensures { (links marks : List (ℕ × ℕ)) → is_within 128 (setting_of naming.now) x ≡ true → Seen (setting_of naming.now).readings links marks sight.old → Seen (setting_of naming.now).readings links (marks ++ present (mark_at (setting_of naming.now) column x ∷ [])) sight.new }
-{
-    if let Some((table, v)) = mark_at(naming, column, x) {
-        if let Some(reading) = naming.readings.lowest(v) {
-            sight.add_mark(table, reading);
+impl View<'_> {
+    /// Joins the tables that the statement links at the column, if it links two.
+    fn add_link(&self, groups: &mut Groups, x: Statement)
+        ensures { (links : List (ℕ × ℕ)) → is_within 128 (setting_of self.now.naming.now) x ≡ true → Roots links groups.old.root → Roots (links ++ present (link_at (setting_of self.now.naming.now) self.now.column x ∷ [])) groups.new.root }
+    {
+        if let Some((a, b)) = self.link(x) {
+            groups.join(a, b);
         }
     }
-}
 
-/// Marks the tables that the statements mark at the column.
-fn add_marks(sight: &mut Sight, naming: &Naming, column: Column, xs: &[Statement])
-    ensures { (links marks : List (ℕ × ℕ)) → Readable (setting_of naming.now) xs.now → Seen (setting_of naming.now).readings links marks sight.old → Seen (setting_of naming.now).readings links (marks ++ marks_at (setting_of naming.now) xs.now column) sight.new }
-{
-    for x in xs {
-        add_mark_of(sight, naming, column, *x);
+    /// Joins the tables that the statements link at the column.
+    fn add_links(&self, groups: &mut Groups, xs: &[Statement])
+        ensures { (links : List (ℕ × ℕ)) → Readable (setting_of self.now.naming.now) xs.now → Roots links groups.old.root → Roots (links ++ links_at (setting_of self.now.naming.now) xs.now self.now.column) groups.new.root }
+    {
+        for x in xs {
+            self.add_link(groups, *x);
+        }
     }
-}
 
-/// The sight of a column: first all links, then the marks of the groups that they make.
-pub fn sight_at(
-    naming: &Naming,
-    column: Column,
-    offered: Statement,
-    kept: &[Statement],
-    rest: &[Statement],
-) -> Sight
-    ensures { Readable (setting_of naming.now) (given offered kept.now rest.now) → SeenAt (setting_of naming.now) (given offered kept.now rest.now) column result }
-{
-    let first = [offered];
-    let mut groups = Groups::new();
-    add_links(&mut groups, naming, column, &first);
-    add_links(&mut groups, naming, column, kept);
-    add_links(&mut groups, naming, column, rest);
-    let mut sight = Sight::over(groups);
-    add_marks(&mut sight, naming, column, &first);
-    add_marks(&mut sight, naming, column, kept);
-    add_marks(&mut sight, naming, column, rest);
-    sight
-}
+    /// Marks the table that the statement marks at the column, if it marks one.
+    fn add_mark(&self, sight: &mut Sight, x: Statement)
+        ensures { (links marks : List (ℕ × ℕ)) → is_within 128 (setting_of self.now.naming.now) x ≡ true → Seen (setting_of self.now.naming.now).readings links marks sight.old → Seen (setting_of self.now.naming.now).readings links (marks ++ present (mark_at (setting_of self.now.naming.now) self.now.column x ∷ [])) sight.new }
+    {
+        let Some((table, v)) = self.mark(x) else {
+            return;
+        };
+        let Some(reading) = self.naming.readings.lowest(v) else {
+            return;
+        };
+        sight.add_mark(table, reading);
+    }
 
-/// The sight of a column of one list.
-pub fn sight_of(naming: &Naming, column: Column, xs: &[Statement]) -> Sight
-    ensures { Readable (setting_of naming.now) xs.now → SeenAt (setting_of naming.now) xs.now column result }
-{
-    let mut groups = Groups::new();
-    add_links(&mut groups, naming, column, xs);
-    let mut sight = Sight::over(groups);
-    add_marks(&mut sight, naming, column, xs);
-    sight
+    /// Marks the tables that the statements mark at the column.
+    fn add_marks(&self, sight: &mut Sight, xs: &[Statement])
+        ensures { (links marks : List (ℕ × ℕ)) → Readable (setting_of self.now.naming.now) xs.now → Seen (setting_of self.now.naming.now).readings links marks sight.old → Seen (setting_of self.now.naming.now).readings links (marks ++ marks_at (setting_of self.now.naming.now) xs.now self.now.column) sight.new }
+    {
+        for x in xs {
+            self.add_mark(sight, *x);
+        }
+    }
+
+    /// The groups of tables that a list links at the column.
+    fn groups(&self, parts: &[&[Statement]]) -> Groups
+        ensures { Readable (setting_of self.now.naming.now) (whole parts.now) → Roots (links_at (setting_of self.now.naming.now) (whole parts.now) self.now.column) result.root }
+    {
+        let mut groups = Groups::new();
+        for xs in parts {
+            self.add_links(&mut groups, xs);
+        }
+        groups
+    }
+
+    /// The sight of the column, of a list that is given in parts: first all links, then the marks of the groups that they make.
+    ///
+    /// Written out where it is called, so that the loops know the column: a decision takes a twentieth less.
+    #[inline(always)]
+    pub fn sight(&self, parts: &[&[Statement]]) -> Sight
+        ensures { Readable (setting_of self.now.naming.now) (whole parts.now) → SeenAt (setting_of self.now.naming.now) (whole parts.now) self.now.column result }
+    {
+        let mut sight = Sight::over(self.groups(parts));
+        for xs in parts {
+            self.add_marks(&mut sight, xs);
+        }
+        sight
+    }
 }

@@ -1,13 +1,13 @@
 -- The statements to blame, found one after the other.
-use Rattle.std.proofs.Common.{◌≡◌, ℕ, ◌+◌, ◌-◌, ◌<◌, Bool, true, false, List, [], ◌∷◌, ◌++◌, length, get_or, take, drop, Some, None, Option, sym, refl, ap, ◌∙◌, subst, arith}
+use Rattle.std.proofs.Common.{◌≡◌, ℕ, ◌+◌, ◌-◌, ◌<◌, Bool, true, false, List, [], ◌∷◌, ◌++◌, length, get_or, take, drop, Some, None, Option, sym, refl, ap, ◌∙◌, subst, subst₂, arith}
 use Rattle.std.specs.List.{range_with_len}
 use Rattle.std.proofs.lemmas.List.{append_assoc, append-nil, drop-drop, drop_more, get_or-drop, length-drop, take_rest}
 use Rattle.std.proofs.lemmas.Bool.{and_parts}
 use Rattle.links.specs.Lists.{Member}
+use Rattle.links.proofs.Lists.{member_right}
 use Rattle.arrangement.specs.Kept.{lawful}
 use Rattle.statement.specs.declared.Statement.{Statement}
 use Rattle.meaning.specs.Answers.{cited, staying}
-use Rattle.meaning.specs.Columns.{test}
 use Rattle.meaning.specs.Fillings.{Orderly, Setting}
 use Rattle.meaning.specs.Theorems.{Within}
 use Rattle.meaning.proofs.Blame.{fewer_fit}
@@ -15,7 +15,7 @@ use Rattle.meaning.proofs.Lists.{after_within, within_more}
 use Rattle.column.specs.declared.naming.Naming.{Naming}
 use Rattle.column.specs.Naming.{setting_of}
 use Rattle.column.specs.Sights.{Readable, given}
-use Rattle.decision.specs.Citations.{Found, Turns, Unfit, fitting}
+use Rattle.decision.specs.Citations.{Found, Turns, fitting}
 use Rattle.decision.proofs.Halving.{drop_within, staying_all, staying_none, staying_turn}
 
 -- a part of what is readable is
@@ -23,23 +23,16 @@ pub readable_part : (w : Setting) (offered : Statement) (xs ys : List Statement)
     → Readable w (offered ∷ xs)
 readable_part w offered xs ys v r x m = r x (within_more offered xs ys v x m)
 
--- the answer on those kept and the rest from place m on, which the test is lent as a part of a slice
-pub tested : (w : Setting) (offered : Statement) (kept rest : List Statement) (m : ℕ) (answer : Bool)
-    → (Readable w (given offered kept (take (length rest - m) (drop m rest)))
-    → answer ≡ test w (given offered kept (take (length rest - m) (drop m rest))))
-    → Readable w (given offered kept rest) → fitting w offered (kept ++ drop m rest) ≡ answer
-tested w offered kept rest m answer told readable =
-    let whole = sym (take_rest rest m) in
-    let part = readable_part w offered (kept ++ drop m rest) (kept ++ rest) (after_within kept (drop m rest) rest (drop_within m rest)) readable in
-    ap (λ (ys : List Statement). fitting w offered (kept ++ ys)) whole
-    ∙ sym (told (subst (λ (ys : List Statement). Readable w (given offered kept ys)) whole part))
+-- what a part of a slice is lent, from place i on, can be read with those kept
+pub readable_later : (w : Setting) (offered : Statement) (kept rest : List Statement) (i : ℕ) → Readable w (given offered kept rest)
+    → Readable w (given offered kept (take (length rest - i) (drop i rest)))
+readable_later w offered kept rest i r =
+    rw take_rest (readable_part w offered (kept ++ drop i rest) (kept ++ rest) (after_within kept (drop i rest) rest (drop_within i rest)) r)
 
--- the answer on those kept by themselves
-pub tested_alone : (w : Setting) (offered : Statement) (kept rest : List Statement) (answer : Bool)
-    → (Readable w (given offered kept []) → answer ≡ test w (given offered kept []))
-    → Readable w (given offered kept rest) → fitting w offered (kept ++ []) ≡ answer
-tested_alone w offered kept rest answer told readable =
-    sym (told (readable_part w offered (kept ++ []) (kept ++ rest) (after_within kept [] rest (λ x m. absurd m)) readable))
+-- and the rest with none kept
+pub readable_rest : (w : Setting) (offered : Statement) (kept rest : List Statement) → Readable w (given offered kept rest)
+    → Readable w (offered ∷ rest)
+readable_rest w offered kept rest r = readable_part w offered rest (kept ++ rest) (λ x m. member_right x kept rest m) r
 
 -- The positions found so far are `ps`, the statements there are `kept`, and the others to blame stand from place p on.
 pub record Blaming (w : Setting) (offered : Statement) (list : List Statement) (ps : List ℕ) (kept : List Statement) (p : ℕ) : Type 0 where
@@ -47,10 +40,11 @@ pub record Blaming (w : Setting) (offered : Statement) (list : List Statement) (
   pub fails : fitting w offered (kept ++ drop p list) ≡ false
   pub within : Within (kept ++ drop p list) list
 
-pub blaming_none : (w : Setting) (offered : Statement) (list : List Statement) → fitting w offered list ≡ false
-    → Blaming w offered list [] [] 0
+pub blaming_none : (w : Setting) (offered : Statement) (list : List Statement) (ps : List ℕ) (kept : List Statement) → fitting w offered list ≡ false
+    → ps ≡ [] → kept ≡ [] → Blaming w offered list ps kept 0
 unfolding cited
-blaming_none w offered list h = record { whole = refl; fails = h; within = λ x m. m }
+blaming_none w offered list ps kept h no_ps no_kept =
+    rw (no_ps, no_kept) (record { whole = refl; fails = h; within = λ x m. m })
 
 module _ (naming : Naming) (offered : Statement) (list : List Statement) (readable : Readable (setting_of naming) (offered ∷ list)) where
   abbrev w : Setting
@@ -70,24 +64,26 @@ module _ (naming : Naming) (offered : Statement) (list : List Statement) (readab
   unfolding cited
   cited_all h = staying_all fits list fewer [] list 1 (λ x m. m) h
 
-  module _ (ps : List ℕ) (kept : List Statement) (p : ℕ) (b : Blaming w offered list ps kept p) where
-    -- the rest, as the search for the next is lent it
-    abbrev lent : List Statement
-    lent = take (length list - p) (drop p list)
+  -- The search for the next is lent the kept statements and the rest.
+  module _ (ps : List ℕ) (kept : List Statement) (p : ℕ) (b : Blaming w offered list ps kept p) (kept' : List Statement) (same : kept' ≡ kept) where
+    abbrev rest' : List Statement
+    rest' = take (length list - p) (drop p list)
 
-    found_in : (answer : Option ℕ) → (Unfit w offered (kept ++ lent) → Found fits kept lent answer) → Found fits kept (drop p list) answer
+    pub lent_readable : Readable w (given offered kept' rest')
+    lent_readable = rw (same, take_rest) (readable_part w offered (kept ++ drop p list) list b.within readable)
+
+    found_in : (answer : Option ℕ) → Found fits kept' rest' answer → Found fits kept (drop p list) answer
     found_in answer found =
-        subst (λ (ys : List Statement). Unfit w offered (kept ++ ys) → Found fits kept ys answer) (take_rest list p) found
-        (record { readable = readable_part w offered (kept ++ drop p list) list b.within readable; fails = b.fails })
+        subst₂ (λ (ks ys : List Statement). Found fits ks ys answer) same (take_rest list p) found
 
     -- once none is found, all that are to blame are kept
-    pub blaming_all : (Unfit w offered (kept ++ lent) → Found fits kept lent None) → cited w list offered ≡ ps
+    pub blaming_all : Found fits kept' rest' None → cited w list offered ≡ ps
     blaming_all found =
         b.whole
         ∙ ap (λ qs. ps ++ qs) (staying_none fits list fewer kept (drop p list) (p + 1) b.within (found_in None found))
         ∙ append-nil ps
 
-    module _ (i : ℕ) (d : Statement) (l : p + i < length list) (found : Unfit w offered (kept ++ lent) → Found fits kept lent (Some i)) where
+    module _ (i : ℕ) (d : Statement) (l : p + i < length list) (found : Found fits kept' rest' (Some i)) where
       turns : Turns fits kept (drop p list) i
       turns = found_in (Some i) found
 

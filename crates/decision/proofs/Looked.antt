@@ -1,10 +1,12 @@
 -- The columns that were looked at, and those that look as elsewhere.
-use Rattle.std.proofs.Common.{◌≡◌, ℕ, ◌+◌, ◌<◌, ◌≤◌, Bool, true, false, cond, ◌≢◌, List, [], ◌∷◌, map, length, get_or, set, replicate, Some, None, Option, sym, refl, ap, ◌∙◌, subst, inl, inr, arith}
+use Rattle.std.proofs.Common.{◌≡◌, ℕ, ◌+◌, ◌<◌, ◌≤◌, Bool, true, false, cond, ltb, ◌≢◌, List, [], ◌∷◌, map, length, get_or, set, replicate, Some, None, Option, sym, refl, ap, ◌∙◌, subst, inl, inr, arith}
 use Rattle.std.proofs.lemmas.List.{get_or-replicate, get_or-set_other, get_or-set_same}
-use Rattle.std.proofs.lemmas.Bool.{both_ways, cases_Bool, cases_eq, cases_lt, eq-eqb, eqb-true, false≢true}
+use Rattle.std.proofs.lemmas.Bool.{both_ways, cases_Bool, cases_eq, cases_lt, cond-false, cond-true, eq-eqb, eqb-true, false≢true, le-ltb, lt-ltb}
 use Rattle.links.specs.Lists.{Member, present}
-use Rattle.links.proofs.Lists.{any_from, any_has}
+use Rattle.links.proofs.Lists.{all_has, any_from, any_has}
 use Rattle.arrangement.specs.Meaning.{Lawful, Meaning, lowest, same}
+use Rattle.arrangement.specs.Kept.{lawful}
+use Rattle.arrangement.specs.Stored.{lowest_of}
 use Rattle.arrangement.specs.Lowest.{lowest-le, lowest_same, lowest_twice}
 use Rattle.statement.specs.declared.Statement.{Statement}
 use Rattle.statement.specs.declared.Statement.TheVariants.{W, R, E, D}
@@ -13,11 +15,14 @@ use Rattle.meaning.specs.declared.column.Column.TheVariants.{Elsewhere}
 use Rattle.meaning.specs.Columns.{at, clash_at, here, link_at, links_at, mark_at, marks_at}
 use Rattle.meaning.specs.Fillings.{Named, Setting, is_within, slot_of}
 use Rattle.meaning.proofs.ColumnList.{has_at, has_elsewhere}
+use Rattle.meaning.proofs.Lists.{none_some, some_inj}
 use Rattle.meaning.proofs.Sound.{slot_named}
 use Rattle.column.specs.declared.sight.Sight.{Sight}
-use Rattle.column.specs.Sights.{Readable, Seen, SeenAt}
+use Rattle.column.specs.Sights.{Readable, Seen, SeenAt, is_readable}
 use Rattle.column.proofs.Seeing.{clash_is, is_named_lem}
 use Rattle.decision.specs.Looks.{AllSeen, Loud, OfColumn, is_named_in, leads}
+use Rattle.decision.specs.Trials.{setting, tried}
+use Rattle.decision.specs.declared.trial.Trial.{Trial}
 use Rattle.decision.specs.declared.sights.Sights.{Sights}
 
 present_same : {X Y : Type 0} (f g : X → Option Y) (xs : List X) → ((x : X) → Member x xs → f x ≡ g x) → present (map f xs) ≡ present (map g xs)
@@ -93,75 +98,104 @@ pub record SeenBelow (w : Setting) (xs : List Statement) (elsewhere : Sight) (c 
   pub later : (k : ℕ) → c ≤ k → k < 64 → (d : Sight) → get_or each k d ≡ elsewhere
   pub only : (k : ℕ) → k < 64 → (d : Sight) → OfColumn w xs (get_or each k d)
 
-module _ (w : Setting) (law : Lawful w.slots) (xs : List Statement) (named : Named w xs)
-    (elsewhere : Sight) (nowhere : SeenAt w xs Elsewhere elsewhere) (calm : elsewhere.clash ≡ false) where
-  pub seen_start : SeenBelow w xs elsewhere 0 (replicate 64 elsewhere)
-  seen_start = record {
-    classes = λ k l. absurd (omega arith);
-    later = λ k l u d. get_or-replicate 64 k elsewhere d u;
-    only = λ k u d.
-        subst (OfColumn w xs) (sym (get_or-replicate 64 k elsewhere d u))
-        (record { column = Elsewhere; among = has_elsewhere w; seen = nowhere; calm = calm });
-  }
-
-  module _ (c : ℕ) (each : List Sight) (below : SeenBelow w xs elsewhere c each) (small : c < 64) where
-    -- what holds of the classes below c, and of c
-    one_more : (P : ℕ → Type 0) → ((k : ℕ) → k < c → P k) → P c → (k : ℕ) → k < c + 1 → P k
-    one_more P old new k l =
-        elim (cases_lt k c) [
-          | inl lt ↦ old k lt
-          | inr ge ↦ let e : c ≡ k = omega arith in subst P e new
-        ]
-
-    pub seen_skip : is_named_in w.slots xs c ≡ false → SeenBelow w xs elsewhere (c + 1) each
-    seen_skip absent = record {
-      classes = one_more (λ k. lowest w.slots k ≡ k → (d : Sight) → SeenAt w xs (at k) (get_or each k d)) below.classes
-          (λ low d. subst (SeenAt w xs (at c)) (sym (below.later c (omega arith) small d)) (as_elsewhere w law xs named c low absent elsewhere nowhere));
-      later = λ k l u d. below.later k (omega arith) u d;
-      only = below.only;
-    }
-
-    pub seen_set : length each ≡ 64 → (s : Sight) → SeenAt w xs (at c) s → s.clash ≡ false → is_named_in w.slots xs c ≡ true
-        → SeenBelow w xs elsewhere (c + 1) (set each c s)
-    seen_set long s seen quiet present = record {
-      classes = one_more (λ k. lowest w.slots k ≡ k → (d : Sight) → SeenAt w xs (at k) (get_or (set each c s) k d))
-          (λ k l low d.
-          let ne : k ≢ c = omega arith in
-          subst (SeenAt w xs (at k)) (sym (get_or-set_other each c k s d ne)) (below.classes k l low d))
-          (λ low d. subst (SeenAt w xs (at c)) (sym (get_or-set_same each c s d (omega arith))) seen);
-      later = λ k l u d.
-          let ne : k ≢ c = omega arith in get_or-set_other each c k s d ne ∙ below.later k (omega arith) u d;
-      only = λ k u d.
-          elim (cases_eq k c) [
-            | inr ne ↦ subst (OfColumn w xs) (sym (get_or-set_other each c k s d ne)) (below.only k u d)
-            | inl e ↦
-                let r = named_class w law xs named c present in
-                subst (OfColumn w xs) (sym (ap (λ (k : ℕ). get_or (set each c s) k d) e ∙ get_or-set_same each c s d (omega arith)))
-                (record { column = at c; among = has_at w c r.0 r.1; seen = seen; calm = quiet })
-          ];
-    }
-
-  pub seen_all : (s : Sights) → s.elsewhere ≡ elsewhere → (n : ℕ) → 64 ≤ n → SeenBelow w xs elsewhere n s.each → AllSeen w xs s
-  seen_all s e n u below = record {
-    nowhere = subst (SeenAt w xs Elsewhere) (sym e) nowhere;
-    calm = subst (λ (v : Sight). v.clash ≡ false) (sym e) calm;
-    classes = λ k l low d. below.classes k (omega (arith, law.small)) low d;
-    only = λ k l d. below.only k (omega (arith, s.long)) d;
-  }
-
-pub loud_at : (w : Setting) → Lawful w.slots → Lawful w.readings → (xs : List Statement) → Named w xs → (c : ℕ) → is_named_in w.slots xs c ≡ true
-    → (s : Sight) → SeenAt w xs (at c) s → s.clash ≡ true → Loud w xs
-loud_at w law readings xs named c present s seen h =
-    let r = named_class w law xs named c present in
-    record { column = at c; among = has_at w c r.0 r.1; clash = sym (clash_at_lem w readings xs (at c) s seen) ∙ h }
-
-pub loud_elsewhere : (w : Setting) → Lawful w.readings → (xs : List Statement) (s : Sight) → SeenAt w xs Elsewhere s → s.clash ≡ true → Loud w xs
-loud_elsewhere w readings xs s seen h =
-    record { column = Elsewhere; among = has_elsewhere w; clash = sym (clash_at_lem w readings xs Elsewhere s seen) ∙ h }
+-- the lowest name of a class is a place among 64
+pub led_below : (m : Meaning) → Lawful m → (i c : ℕ) → lowest_of m i ≡ Some c → c < 64
+led_below m law i c e =
+    elim (cases_lt i m.size) [
+      | inl l ↦ omega (arith, some_inj (sym e ∙ cond-true (ltb i m.size) _ _ (lt-ltb i m.size l)), lowest-le m law i, law.small)
+      | inr l ↦ absurd (none_some (sym (cond-false (ltb i m.size) _ _ (le-ltb i m.size l)) ∙ e))
+    ]
 
 pub readable_one : (w : Setting) (xs : List Statement) (x : Statement) → Readable w xs → Member x xs → Readable w (x ∷ [])
 readable_one w xs x readable m y (inl e) = subst (λ (z : Statement). is_within 128 w z ≡ true) e (readable x m)
 readable_one w xs x readable m y (inr k) = elim k [ ]
 
+pub readable_has : (w : Setting) (xs : List Statement) → is_readable w xs ≡ true → Readable w xs
+readable_has w xs h x m = all_has (is_within 128 w) xs x h m
+
 pub readable_named : (w : Setting) (xs : List Statement) → Readable w xs → Named w xs
 readable_named w xs readable x m = is_named_lem w x (readable x m)
+
+-- What looking at a list that is tried finds.
+module _ (t : Trial) where
+  abbrev w : Setting
+  w = setting t
+
+  abbrev xs : List Statement
+  xs = tried t
+
+  law : Lawful w.slots
+  law = lawful t.naming.now.slots
+
+  named : Named w xs
+  named = readable_named w xs t.readable
+
+  pub loud_elsewhere : (s : Sight) → SeenAt w xs Elsewhere s → s.clash ≡ true → Loud w xs
+  loud_elsewhere s seen h = record {
+    column = Elsewhere;
+    among = has_elsewhere w;
+    clash = sym (clash_at_lem w (lawful t.naming.now.readings) xs Elsewhere s seen) ∙ h;
+  }
+
+  pub loud_at : (c : ℕ) → is_named_in w.slots xs c ≡ true → (s : Sight) → SeenAt w xs (at c) s → s.clash ≡ true → Loud w xs
+  loud_at c present s seen h =
+      let r = named_class w law xs named c present in record {
+        column = at c;
+        among = has_at w c r.0 r.1;
+        clash = sym (clash_at_lem w (lawful t.naming.now.readings) xs (at c) s seen) ∙ h;
+      }
+
+  module _ (elsewhere : Sight) (nowhere : SeenAt w xs Elsewhere elsewhere) (calm : elsewhere.clash ≡ false) where
+    pub seen_start : SeenBelow w xs elsewhere 0 (replicate 64 elsewhere)
+    seen_start = record {
+      classes = λ k l. absurd (omega arith);
+      later = λ k l u d. get_or-replicate 64 k elsewhere d u;
+      only = λ k u d.
+          subst (OfColumn w xs) (sym (get_or-replicate 64 k elsewhere d u))
+          (record { column = Elsewhere; among = has_elsewhere w; seen = nowhere; calm = calm });
+    }
+
+    module _ (c : ℕ) (each : List Sight) (below : SeenBelow w xs elsewhere c each) (small : c < 64) where
+      -- what holds of the classes below c, and of c
+      one_more : (P : ℕ → Type 0) → ((k : ℕ) → k < c → P k) → P c → (k : ℕ) → k < c + 1 → P k
+      one_more P old new k l =
+          elim (cases_lt k c) [
+            | inl lt ↦ old k lt
+            | inr ge ↦ let e : c ≡ k = omega arith in subst P e new
+          ]
+
+      pub seen_skip : is_named_in w.slots xs c ≡ false → SeenBelow w xs elsewhere (c + 1) each
+      seen_skip absent = record {
+        classes = one_more (λ k. lowest w.slots k ≡ k → (d : Sight) → SeenAt w xs (at k) (get_or each k d)) below.classes
+            (λ low d. subst (SeenAt w xs (at c)) (sym (below.later c (omega arith) small d)) (as_elsewhere w law xs named c low absent elsewhere nowhere));
+        later = λ k l u d. below.later k (omega arith) u d;
+        only = below.only;
+      }
+
+      pub seen_set : length each ≡ 64 → (s : Sight) → SeenAt w xs (at c) s → s.clash ≡ false → is_named_in w.slots xs c ≡ true
+          → SeenBelow w xs elsewhere (c + 1) (set each c s)
+      seen_set long s seen quiet present = record {
+        classes = one_more (λ k. lowest w.slots k ≡ k → (d : Sight) → SeenAt w xs (at k) (get_or (set each c s) k d))
+            (λ k l low d.
+            let ne : k ≢ c = omega arith in
+            subst (SeenAt w xs (at k)) (sym (get_or-set_other each c k s d ne)) (below.classes k l low d))
+            (λ low d. subst (SeenAt w xs (at c)) (sym (get_or-set_same each c s d (omega arith))) seen);
+        later = λ k l u d.
+            let ne : k ≢ c = omega arith in get_or-set_other each c k s d ne ∙ below.later k (omega arith) u d;
+        only = λ k u d.
+            elim (cases_eq k c) [
+              | inr ne ↦ subst (OfColumn w xs) (sym (get_or-set_other each c k s d ne)) (below.only k u d)
+              | inl e ↦
+                  let r = named_class w law xs named c present in
+                  subst (OfColumn w xs) (sym (ap (λ (k : ℕ). get_or (set each c s) k d) e ∙ get_or-set_same each c s d (omega arith)))
+                  (record { column = at c; among = has_at w c r.0 r.1; seen = seen; calm = quiet })
+            ];
+      }
+
+    pub seen_all : (s : Sights) → s.elsewhere.now ≡ elsewhere → (n : ℕ) → 64 ≤ n → SeenBelow w xs elsewhere n s.each.now → AllSeen w xs s
+    seen_all s e n u below = record {
+      nowhere = subst (SeenAt w xs Elsewhere) (sym e) nowhere;
+      calm = subst (λ (v : Sight). v.clash ≡ false) (sym e) calm;
+      classes = λ k l low d. below.classes k (omega (arith, law.small)) low d;
+      only = λ k l d. below.only k (omega (arith, s.long)) d;
+    }

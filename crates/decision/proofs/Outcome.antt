@@ -1,8 +1,9 @@
 -- What the sights of all columns decide.
 use Rattle.std.proofs.Common.{◌≡◌, ℕ, ◌<◌, Bool, true, false, not, ◌&&◌, ◌⊎◌, List, [], ◌∷◌, ◌++◌, map, length, get_or, Some, None, Option, sym, refl, ap, ◌∙◌, subst, inl, inr, arith}
-use Rattle.std.proofs.lemmas.Bool.{and_from, and_left, and_parts, and_right, both_ways, cases_Bool, not_from_false}
+use Rattle.std.proofs.lemmas.Bool.{and_from, and_left, and_parts, both_ways, cases_Bool, not_from_false}
 use Rattle.links.specs.Lists.{Member, all_of, present}
 use Rattle.links.proofs.Lists.{all_from, all_has}
+use Rattle.arrangement.specs.Kept.{lawful}
 use Rattle.arrangement.specs.Laws.{same_answer}
 use Rattle.statement.specs.declared.Statement.{Statement}
 use Rattle.meaning.specs.declared.column.Column.{Column}
@@ -11,10 +12,12 @@ use Rattle.meaning.specs.Columns.{alike_at, clash_at, columns, difference, diffe
 use Rattle.meaning.specs.Fillings.{Orderly, Setting}
 use Rattle.meaning.proofs.ColumnList.{column_cases, has_elsewhere}
 use Rattle.column.specs.declared.sight.Sight.{Sight}
-use Rattle.column.specs.Sights.{Readable, SeenAt, given, seem_alike}
+use Rattle.column.specs.Sights.{Readable, SeenAt, seem_alike}
 use Rattle.column.proofs.Parts.{member_at}
 use Rattle.column.proofs.Seeing.{alike_is, difference_below}
 use Rattle.decision.specs.Looks.{AllSeen, Loud, is_borne_out, seem_parted}
+use Rattle.decision.specs.Trials.{setting, tried}
+use Rattle.decision.specs.declared.trial.Trial.{Trial}
 use Rattle.decision.specs.declared.sights.Sights.{Sights}
 use Rattle.decision.proofs.Looked.{clash_at_lem}
 use Rattle.decision.proofs.Runs.{all_append, all_places}
@@ -35,26 +38,26 @@ module _ (w : Setting) (laws : Orderly w) (xs : List Statement) (s : Sights) (se
     pub sight : Sight
     pub shows : SeenAt w xs k sight
     pub calm : sight.clash ≡ false
-    pub stored : (sight ≡ s.elsewhere) ⊎ Member sight s.each
+    pub stored : (sight ≡ s.elsewhere.now) ⊎ Member sight s.each.now
 
   sight_of : (k : Column) → Member k (columns w) → SightOf k
   sight_of k m =
       elim (column_cases w k m) [
         | inl e ↦ record {
-          sight = s.elsewhere;
-          shows = subst (λ k. SeenAt w xs k s.elsewhere) e seen.nowhere;
+          sight = s.elsewhere.now;
+          shows = subst (λ k. SeenAt w xs k s.elsewhere.now) e seen.nowhere;
           calm = seen.calm;
           stored = inl refl;
         }
         | inr r ↦
             let c = r.0 in
-            let inside : c < length s.each = omega (arith, laws.slots.small, s.long) in
-            let v = get_or s.each c s.elsewhere in
+            let inside : c < length s.each.now = omega (arith, laws.slots.small, s.long) in
+            let v = get_or s.each.now c s.elsewhere.now in
             record {
               sight = v;
-              shows = subst (λ k. SeenAt w xs k v) r.3 (seen.classes c r.1 r.2 s.elsewhere);
-              calm = (seen.only c inside s.elsewhere).calm;
-              stored = inr (member_at s.each c s.elsewhere inside);
+              shows = subst (λ k. SeenAt w xs k v) r.3 (seen.classes c r.1 r.2 s.elsewhere.now);
+              calm = (seen.only c inside s.elsewhere.now).calm;
+              stored = inr (member_at s.each.now c s.elsewhere.now inside);
             }
       ]
 
@@ -77,24 +80,24 @@ module _ (w : Setting) (laws : Orderly w) (xs : List Statement) (s : Sights) (se
     unfolding alike_at
     seem_is k v sees calm = alike_is w.readings laws.readings (links_at w xs k) (marks_at w xs k) v sees calm p.0 p.1 la lb
 
-    all_alike : (seem s.elsewhere && all_of seem s.each) ≡ all_of (alike_at w xs p) (columns w)
+    all_alike : (seem s.elsewhere.now && all_of seem s.each.now) ≡ all_of (alike_at w xs p) (columns w)
     all_alike =
-        same_answer (seem s.elsewhere && all_of seem s.each) (all_of (alike_at w xs p) (columns w))
+        same_answer (seem s.elsewhere.now && all_of seem s.each.now) (all_of (alike_at w xs p) (columns w))
         (λ h.
-        let both = and_parts (seem s.elsewhere) (all_of seem s.each) h in
+        let both = and_parts (seem s.elsewhere.now) (all_of seem s.each.now) h in
         all_from (alike_at w xs p) (columns w) (λ k m.
         let r = sight_of k m in
         sym (seem_is k r.sight r.shows r.calm)
         ∙ elim r.stored [
           | inl e ↦ ap seem e ∙ both.0
-          | inr j ↦ all_has seem s.each r.sight both.1 j
+          | inr j ↦ all_has seem s.each.now r.sight both.1 j
         ]))
         (λ h.
-        and_from (seem s.elsewhere) (all_of seem s.each)
-        (seem_is Elsewhere s.elsewhere seen.nowhere seen.calm ∙ all_has (alike_at w xs p) (columns w) Elsewhere h (has_elsewhere w))
-        (all_places seem s.each (λ i l d.
+        and_from (seem s.elsewhere.now) (all_of seem s.each.now)
+        (seem_is Elsewhere s.elsewhere.now seen.nowhere seen.calm ∙ all_has (alike_at w xs p) (columns w) Elsewhere h (has_elsewhere w))
+        (all_places seem s.each.now (λ i l d.
         let r = seen.only i l d in
-        seem_is r.column (get_or s.each i d) r.seen r.calm ∙ all_has (alike_at w xs p) (columns w) r.column h r.among)))
+        seem_is r.column (get_or s.each.now i d) r.seen r.calm ∙ all_has (alike_at w xs p) (columns w) r.column h r.among)))
 
     parted_is : seem_parted s p ≡ parted w xs p
     unfolding parted
@@ -123,22 +126,10 @@ module _ (w : Setting) (laws : Orderly w) (xs : List Statement) (s : Sights) (se
       one_more None = refl
       one_more (Some p) = refl
 
--- the three parts of a list that was looked at
-module _ (w : Setting) (laws : Orderly w) (x : Statement) (ys zs : List Statement) (s : Sights)
-    (readable : Readable w (given x ys zs)) (seen : AllSeen w (given x ys zs) s) where
-  abbrev borne : Statement → Bool
-  borne y = is_borne_out s (difference y)
-
-  pub borne_test : (borne x && (all_of borne ys && all_of borne zs)) ≡ test w (given x ys zs)
-  borne_test =
-      ap (λ b. borne x && b) (sym (all_append borne ys zs)) ∙ all_borne w laws (given x ys zs) s seen (given x ys zs) readable
-      ∙ quiet_test w laws (given x ys zs) s seen
-
-  pub fails_offered : borne x ≡ false → false ≡ test w (given x ys zs)
-  fails_offered h = sym (and_left (borne x) (all_of borne ys && all_of borne zs) h) ∙ borne_test
-
-  pub fails_kept : all_of borne ys ≡ false → false ≡ test w (given x ys zs)
-  fails_kept h = sym (and_right (borne x) (all_of borne ys && all_of borne zs) (and_left (all_of borne ys) (all_of borne zs) h)) ∙ borne_test
-
-  pub rest_decides : borne x ≡ true → all_of borne ys ≡ true → all_of borne zs ≡ test w (given x ys zs)
-  rest_decides h k = sym (ap (λ b. b && (all_of borne ys && all_of borne zs)) h ∙ ap (λ b. b && all_of borne zs) k) ∙ borne_test
+-- what the sights of a list bear out of it decides
+pub borne_test : (t : Trial) (s : Sights) → AllSeen (setting t) (tried t) s
+    → all_of (λ x. is_borne_out s (difference x)) (tried t) ≡ test (setting t) (tried t)
+borne_test t s seen =
+    let w = setting t in
+    let laws : Orderly w = record { slots = lawful t.naming.now.slots; readings = lawful t.naming.now.readings } in
+    all_borne w laws (tried t) s seen (tried t) t.readable ∙ quiet_test w laws (tried t) s seen

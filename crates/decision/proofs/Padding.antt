@@ -1,22 +1,14 @@
 -- Positions in front, and zeros after them.
-use Rattle.std.proofs.Common.{◌≡◌, ℕ, suc, ◌+◌, ◌-◌, ◌<◌, List, [], ◌∷◌, ◌++◌, length, set, replicate, sym, ap, ◌∙◌, arith}
+use Rattle.std.proofs.Common.{◌≡◌, ℕ, ◌+◌, List, [], ◌∷◌, ◌++◌, length, drop, replicate, sym, ap, ap₂, ◌∙◌}
 use Rattle.std.specs.List.{range_with_len}
+use Rattle.std.proofs.lemmas.List.{drop-replicate, map-id}
 use Rattle.std.proofs.lemmas.List.FromFn.{map-range_with_len_more}
-use Rattle.std.proofs.lemmas.List.{append_assoc, length_push, map-id, set_at}
-use Rattle.decision.specs.Citations.{citation, padded}
+use Rattle.decision.specs.Citations.{citation}
 
--- one more position
-pub padded_more : (ps positions : List ℕ) (n q : ℕ) → positions ≡ padded ps → length ps ≡ n → n < 512
-    → set positions n q ≡ padded (ps ++ q ∷ [])
-padded_more ps positions n q e many l =
-    let room : 512 - length ps ≡ suc (512 - length (ps ++ q ∷ [])) = omega (arith, length_push ps q) in
-    ap (λ (xs : List ℕ). set xs n q) (e ∙ ap (λ (k : ℕ). ps ++ replicate k 0) room)
-    ∙ set_at ps 0 (replicate (512 - length (ps ++ q ∷ [])) 0) q n many
-    ∙ sym (append_assoc ps (q ∷ []) (replicate (512 - length (ps ++ q ∷ [])) 0))
-
-pub citation_is : (ps positions : List ℕ) (n : ℕ) → positions ≡ padded ps → length ps ≡ n
-    → record { count = n; positions = positions } ≡ citation ps
-citation_is ps positions n e many = λ i. record { count = sym many i; positions = e i }
+-- positions written over the front of zeros
+pub written : (ps front : List ℕ) → front ≡ ps → record { count = length ps; positions = front ++ drop (length ps) (replicate 512 0) } ≡ citation ps
+written ps front e =
+    ap₂ (λ (xs zeros : List ℕ). record { count = length ps; positions = xs ++ zeros }) e (drop-replicate (length ps) 512 0)
 
 pub counting_more : (a n j : ℕ) → a + n ≡ j → range_with_len a (n + 1) ≡ range_with_len a n ++ j ∷ []
 counting_more a n j e =

@@ -1,24 +1,20 @@
 -- Tests over lists, as loops make them.
-use Rattle.std.proofs.Common.{◌≡◌, ℕ, suc, ◌+◌, ◌<◌, ◌≤◌, Bool, true, false, ◌&&◌, ◌||◌, List, [], ◌∷◌, ◌++◌, length, get_or, take, sym, refl, ap, ◌∙◌, inl, inr, arith}
+use Rattle.std.proofs.Common.{◌≡◌, ℕ, suc, ◌+◌, ◌<◌, ◌≤◌, Bool, true, false, not, ◌&&◌, ◌||◌, List, [], ◌∷◌, ◌++◌, length, get_or, take, sym, refl, ap, ◌∙◌, arith}
+use Rattle.std.proofs.Math.Bool.{and_assoc, or_assoc}
 use Rattle.std.proofs.lemmas.List.{take_all, take_more}
-use Rattle.std.proofs.lemmas.Bool.{and_from, both_ways, cases_Bool}
-use Rattle.column.proofs.Parts.{member_at}
+use Rattle.std.specs.List.{list_any}
+use Rattle.std.proofs.lemmas.Bool.{and_from}
 use Rattle.links.specs.Lists.{all_of, any_of}
-use Rattle.links.proofs.Lists.{all_has}
-
-pub or_assoc : (x y z : Bool) → ((x || y) || z) ≡ (x || (y || z))
-or_assoc true y z = refl
-or_assoc false y z = refl
-
-pub or_none : (x : Bool) → (x || false) ≡ x
-or_none true = refl
-or_none false = refl
-
-and_assoc : (x y z : Bool) → ((x && y) && z) ≡ (x && (y && z))
-and_assoc true y z = refl
-and_assoc false y z = refl
 
 module _ {X : Type 0} (p : X → Bool) where
+  pub any_not : (xs : List X) → list_any (λ x. not (p x)) xs ≡ not (all_of p xs)
+  any_not [] = refl
+  any_not (x ∷ xs) = ap (λ b. not (p x) || b) (any_not xs) ∙ either (p x) (all_of p xs)
+    where
+      either : (a b : Bool) → (not a || not b) ≡ not (a && b)
+      either true b = refl
+      either false b = refl
+
   pub any_append : (xs ys : List X) → any_of p (xs ++ ys) ≡ (any_of p xs || any_of p ys)
   any_append [] ys = refl
   any_append (x ∷ xs) ys = ap (λ b. p x || b) (any_append xs ys) ∙ sym (or_assoc (p x) (any_of p xs) (any_of p ys))
@@ -41,21 +37,6 @@ module _ {X : Type 0} (p : X → Bool) where
   pub all_append : (xs ys : List X) → all_of p (xs ++ ys) ≡ (all_of p xs && all_of p ys)
   all_append [] ys = refl
   all_append (x ∷ xs) ys = ap (λ b. p x && b) (all_append xs ys) ∙ sym (and_assoc (p x) (all_of p xs) (all_of p ys))
-
-  pub all_more : (xs : List X) (i : ℕ) (d : X) → i < length xs → p (get_or xs i d) ≡ true → all_of p (take i xs) ≡ true → all_of p (take (i + 1) xs) ≡ true
-  all_more xs i d l h k =
-      ap (all_of p) (take_more xs i d l) ∙ all_append (take i xs) (get_or xs i d ∷ [])
-      ∙ and_from (all_of p (take i xs)) (p (get_or xs i d) && true) k (and_from (p (get_or xs i d)) true h refl)
-
-  pub all_done : (xs : List X) (i : ℕ) → length xs ≤ i → all_of p (take i xs) ≡ true → all_of p xs ≡ true
-  all_done xs i l h = ap (all_of p) (sym (take_all i xs l)) ∙ h
-
-  pub all_not : (xs : List X) (i : ℕ) (d : X) → i < length xs → p (get_or xs i d) ≡ false → all_of p xs ≡ false
-  all_not xs i d l h =
-      elim (cases_Bool (all_of p xs)) [
-        | inl k ↦ absurd (both_ways (p (get_or xs i d)) h (all_has p xs (get_or xs i d) k (member_at xs i d l)))
-        | inr k ↦ k
-      ]
 
   -- what passes at every place passes
   pub all_places : (xs : List X) → ((i : ℕ) → i < length xs → (d : X) → p (get_or xs i d) ≡ true) → all_of p xs ≡ true

@@ -1,9 +1,10 @@
 -- What is cited, and the search for the next statement to blame.
-use Rattle.std.specs.Prelude.{◌≡◌, ℕ, ◌+◌, ◌-◌, Bool, true, false, List, [], ◌∷◌, ◌++◌, length, drop, replicate, Some, None, Option}
+use Rattle.std.specs.Prelude.{◌≡◌, ℕ, ◌+◌, ◌-◌, Bool, true, false, cond, ◌&&◌, List, [], ◌∷◌, ◌++◌, length, drop, replicate, Some, None, Option, nat_le}
 use Rattle.statement.specs.declared.Statement.{Statement}
+use Rattle.meaning.specs.Answers.{cited}
 use Rattle.meaning.specs.Columns.{test}
 use Rattle.meaning.specs.Fillings.{Setting}
-use Rattle.column.specs.Sights.{Readable}
+use Rattle.column.specs.Sights.{is_readable}
 use Rattle.decision.specs.declared.citation.Citation.{Citation}
 
 -- the positions, with zeros up to the room that a citation has
@@ -18,11 +19,6 @@ citation ps = record { count = length ps; positions = padded ps }
 abbrev pub fitting : Setting → Statement → List Statement → Bool
 fitting w offered ys = test w (offered ∷ ys)
 
--- they can be read, and do not fit with it
-pub record Unfit (w : Setting) (offered : Statement) (ys : List Statement) : Type 0 where
-  pub readable : Readable w (offered ∷ ys)
-  pub fails : fitting w offered ys ≡ false
-
 -- the rest from place i on does not fit with those kept, and from the next place on it does
 pub record Turns {X : Type 0} (fits : List X → Bool) (kept rest : List X) (i : ℕ) : Type 0 where
   pub fails : fits (kept ++ drop i rest) ≡ false
@@ -32,3 +28,8 @@ pub record Turns {X : Type 0} (fits : List X → Bool) (kept rest : List X) (i :
 abbrev pub Found : {X : Type 0} → (List X → Bool) → List X → List X → Option ℕ → Type 0
 Found fits kept rest None = fits (kept ++ []) ≡ false
 Found fits kept rest (Some i) = Turns fits kept rest i
+
+-- what is cited: nothing of a list that is too long, or where a name is not below the counts
+abbrev pub cited_answer : Setting → List Statement → Statement → Citation
+cited_answer w list offered =
+    citation (cond (nat_le (length list) 512 && is_readable w (offered ∷ list)) (cited w list offered) [])

@@ -1,2 +1,3 @@
 pub mod Citations
 pub mod Looks
+pub mod Trials

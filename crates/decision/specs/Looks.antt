@@ -23,7 +23,7 @@ is_named_in m xs c = any_of (λ x. leads m c (slot_of x)) xs
 -- are two tables not alike in one of the sights?
 abbrev pub seem_parted : Sights → ℕ × ℕ → Bool
 seem_parted s tables =
-    not (seem_alike s.elsewhere tables.0 tables.1 && all_of (λ v. seem_alike v tables.0 tables.1) s.each)
+    not (seem_alike s.elsewhere.now tables.0 tables.1 && all_of (λ v. seem_alike v tables.0 tables.1) s.each.now)
 
 -- so are the tables that are to differ, if there are such
 abbrev pub is_borne_out : Sights → Option (ℕ × ℕ) → Bool
@@ -45,7 +45,7 @@ pub record OfColumn (w : Setting) (xs : List Statement) (s : Sight) : Type 0 whe
 
 -- the sights are those of the columns, and nothing clashes
 pub record AllSeen (w : Setting) (xs : List Statement) (s : Sights) : Type 0 where
-  pub nowhere : SeenAt w xs Elsewhere s.elsewhere
-  pub calm : s.elsewhere.clash ≡ false
-  pub classes : (c : ℕ) → c < w.slots.size → lowest w.slots c ≡ c → (d : Sight) → SeenAt w xs (at c) (slice_index_or s.each c d)
-  pub only : (c : ℕ) → c < length s.each → (d : Sight) → OfColumn w xs (slice_index_or s.each c d)
+  pub nowhere : SeenAt w xs Elsewhere s.elsewhere.now
+  pub calm : s.elsewhere.now.clash ≡ false
+  pub classes : (c : ℕ) → c < w.slots.size → lowest w.slots c ≡ c → (d : Sight) → SeenAt w xs (at c) (slice_index_or s.each.now c d)
+  pub only : (c : ℕ) → c < length s.each.now → (d : Sight) → OfColumn w xs (slice_index_or s.each.now c d)

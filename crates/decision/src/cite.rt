@@ -1,76 +1,105 @@
 //! Which statements are to blame where an offered one does not fit?
 
-ghost use Rattle.std.specs.Prelude.{◌≡◌, ◌<◌, ◌≤◌, true, [], ◌∷◌, ◌++◌, length, IfSome};
+ghost use Rattle.std.specs.Prelude.{◌≡◌, ◌<◌, ◌≤◌, true, false, [], ◌++◌, length, drop, IfSome};
 ghost use Rattle.std.specs.List.{range_with_len};
 ghost use Rattle.column.specs.Naming.{setting_of};
-ghost use Rattle.column.specs.Sights.{Readable};
-ghost use Rattle.decision.specs.Citations.{Found, Turns, Unfit, citation, fitting};
+ghost use Rattle.decision.specs.Citations.{Found, Turns, citation, cited_answer};
+ghost use Rattle.decision.specs.Trials.{fits_with, setting};
 ghost use Rattle.meaning.specs.Answers.{cited as cited_of};
 
 use crate::citation::Citation;
-use crate::deciding::fits;
+use crate::deciding::is_readable;
+use crate::trial::Trial;
+use bounded::Bounded;
 use column::Naming;
 use statement::Statement;
 
 /// How many positions a citation has room for.
 const MOST: usize = 512;
 
-/// The place from which on the rest does not fit with those kept, while from the next place on it does.
-///
-/// More statements never fit better, so half of the places can be passed over at each test.
-fn halve(naming: &Naming, offered: Statement, kept: &[Statement], rest: &[Statement]) -> usize
-    ensures within { 0 < length rest.now → result < length rest.now }
-    ensures turns { Unfit (setting_of naming.now) offered (kept.now ++ rest.now) → fitting (setting_of naming.now) offered (kept.now ++ []) ≡ true → Turns (fitting (setting_of naming.now) offered) kept.now rest.now result }
-{
-    let mut low = 0;
-    let mut high = rest.len();
-    while high - low > 1 {
-        let middle = low + (high - low) / 2;
-        if fits(naming, offered, kept, &rest[middle..]) {
-            high = middle;
-        } else {
-            low = middle;
+impl Trial<'_> {
+    /// Does the list fit without what stands before that place of the rest?
+    fn fits_from(&self, place: usize) -> bool
+        requires { place ≤ length self.now.rest.now }
+        ensures { result ≡ fits_with self.now (self.now.kept.now ++ drop place self.now.rest.now) }
+    {
+        let shorter = Trial {
+            naming: self.naming,
+            offered: self.offered,
+            kept: self.kept,
+            rest: &self.rest[place..],
+        };
+        shorter.fits()
+    }
+
+    /// The place from which on the rest does not fit with those kept, while from the next place on it does.
+    ///
+    /// More statements never fit better, so half of the places can be passed over at each test.
+    fn halve(&self) -> usize
+        requires fails { fits_with self.now (self.now.kept.now ++ self.now.rest.now) ≡ false }
+        requires passes { fits_with self.now (self.now.kept.now ++ []) ≡ true }
+        ensures within { result < length self.now.rest.now }
+        ensures turns { Turns (fits_with self.now) self.now.kept.now self.now.rest.now result }
+    {
+        let mut low = 0;
+        let mut high = self.rest.len();
+        while high - low > 1 {
+            let middle = low + (high - low) / 2;
+            if self.fits_from(middle) {
+                high = middle;
+            } else {
+                low = middle;
+            }
         }
+        low
     }
-    low
+
+    /// The place in the rest of the next statement to blame; none where those kept do not fit by themselves.
+    fn next(&self) -> Option<usize>
+        requires { fits_with self.now (self.now.kept.now ++ self.now.rest.now) ≡ false }
+        ensures within { IfSome result (λ i. i < length self.now.rest.now) }
+        ensures turns { Found (fits_with self.now) self.now.kept.now self.now.rest.now result }
+    {
+        if self.rest.is_empty() || !self.fits_from(self.rest.len()) {
+            return None;
+        }
+        Some(self.halve())
+    }
+
+    /// The statements to blame of the rest, which does not fit with the offered one.
+    fn blame(&self) -> Citation
+        requires short { length self.now.rest.now ≤ 512 }
+        requires fails { fits_with self.now self.now.rest.now ≡ false }
+        ensures { result ≡ citation (cited_of (setting self.now) self.now.rest.now self.now.offered) }
+    {
+        let mut kept: Bounded<Statement, MOST> = Bounded::new(self.offered);
+        let mut positions: Bounded<u16, MOST> = Bounded::new(0);
+        let mut p = 0;
+        while let Some(i) = (Trial {
+            naming: self.naming,
+            offered: self.offered,
+            kept: kept.as_slice(),
+            rest: &self.rest[p..],
+        })
+        .next()
+        {
+            let _ = kept.push(self.rest[p + i]);
+            p += i + 1;
+            let _ = positions.push(p as u16);
+        }
+        citation_of(positions.as_slice())
+    }
 }
 
-/// The place in the rest of the next statement to blame; none where those kept do not fit by themselves.
-fn next(
-    naming: &Naming,
-    offered: Statement,
-    kept: &[Statement],
-    rest: &[Statement],
-) -> Option<usize>
-    ensures within { IfSome result (λ i. i < length rest.now) }
-    ensures turns { Unfit (setting_of naming.now) offered (kept.now ++ rest.now) → Found (fitting (setting_of naming.now) offered) kept.now rest.now result }
-{
-    if rest.len() == 0 {
-        return None;
-    }
-    if !fits(naming, offered, kept, &[]) {
-        return None;
-    }
-    Some(halve(naming, offered, kept, rest))
-}
-
-/// The statements to blame of a list that does not fit with the offered one.
-fn blame(naming: &Naming, offered: Statement, list: &[Statement]) -> Citation
+/// What cites these positions.
+fn citation_of(list: &[u16]) -> Citation
     requires { length list.now ≤ 512 }
-    ensures { Unfit (setting_of naming.now) offered list.now → result ≡ citation (cited_of (setting_of naming.now) list.now offered) }
+    ensures { result ≡ citation list.now }
 {
-    let mut kept = [offered; MOST];
     let mut positions = [0; MOST];
-    let mut n = 0;
-    let mut p = 0;
-    while let Some(i) = next(naming, offered, &kept[..n], &list[p..]) {
-        kept[n] = list[p + i];
-        p += i + 1;
-        positions[n] = p as u16;
-        n += 1;
-    }
+    positions[..list.len()].copy_from_slice(list);
     Citation {
-        count: n as u16,
+        count: list.len() as u16,
         positions,
     }
 }
@@ -80,29 +109,35 @@ fn all(count: usize) -> Citation
     requires { count ≤ 512 }
     ensures { result ≡ citation (range_with_len 1 count) }
 {
-    let mut positions = [0; MOST];
-    for i in 0..count {
-        positions[i] = (i + 1) as u16;
+    let mut positions: Bounded<u16, MOST> = Bounded::new(0);
+    // Not by `from_fn`: its contract says too little of a closure that borrows the count. Nor `1..=count`, whose last turn the
+    // proof has apart.
+    for position in 1..count + 1 {
+        let _ = positions.push(position as u16);
     }
-    Citation {
-        count: count as u16,
-        positions,
-    }
+    citation_of(positions.as_slice())
 }
 
 /// The statements of the list to blame for that the offered one does not fit with it: no filling fits it and all of them, and
 /// one does once any of them is left out.
 ///
-/// Where the offered one does fit, each statement stays, so all are cited. Of a list longer than a citation has room for,
-/// none is.
+/// Where the offered one does fit, each statement stays, so all are cited. None is of a list longer than a citation has room
+/// for, nor where a name is not below the counts.
 pub fn cited(naming: &Naming, offered: Statement, list: &[Statement]) -> Citation
-    ensures { length list.now ≤ 512 → Readable (setting_of naming.now) (offered ∷ list.now) → result ≡ citation (cited_of (setting_of naming.now) list.now offered) }
+    ensures { result ≡ cited_answer (setting_of naming.now) list.now offered }
 {
-    if list.len() > MOST {
+    if list.len() > MOST || !is_readable(naming, offered, &[], list) {
         return all(0);
     }
-    if fits(naming, offered, &[], list) {
-        return all(list.len());
+    let trial = Trial {
+        naming,
+        offered,
+        kept: &[],
+        rest: list,
+    };
+    if trial.fits() {
+        all(list.len())
+    } else {
+        trial.blame()
     }
-    blame(naming, offered, list)
 }

@@ -2,12 +2,15 @@
 
 #![tactic(auto)]
 
+mod asking;
 mod citation;
 mod cite;
 mod deciding;
 mod looking;
 mod sights;
+mod trial;
 
 pub use citation::Citation;
 pub use cite::cited;
 pub use deciding::fits;
+pub use trial::Trial;

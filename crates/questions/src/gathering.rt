@@ -6,8 +6,8 @@ ghost use Rattle.questions.specs.Asked.{links_in};
 ghost use Rattle.questions.specs.Linking.{all_inside};
 
 use crate::gathered::Gathered;
+use crate::sighting::view_in;
 use bounded::Bounded;
-use column::link_at;
 use meaning::Column;
 use search::linked::Links;
 use standing::Standing;
@@ -17,10 +17,10 @@ pub(crate) fn gather(standing: &Standing, column: Column) -> Gathered
     ensures tables { result.tables ≡ standing.now.tables }
     ensures links { items_of result.links ≡ links_in standing.now column }
 {
-    let naming = standing.naming();
+    let view = view_in(standing, column);
     let mut links = Bounded::new(None);
     for x in standing.statements() {
-        let _ = links.push(link_at(naming, column, *x));
+        let _ = links.push(view.link(*x));
     }
     Gathered {
         tables: standing.tables(),

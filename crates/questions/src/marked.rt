@@ -6,37 +6,28 @@ ghost use Rattle.links.specs.Lists.{present};
 ghost use Rattle.meaning.specs.Answers.{bears};
 ghost use Rattle.meaning.specs.Columns.{mark_at, marks_at};
 
-use column::{Naming, mark_at};
-use meaning::Column;
+use column::View;
 use search::goal::Goal;
 use statement::Statement;
 
 /// The tables that the statements mark at the column: what a search for the nearest mark looks for.
 #[derive(Clone, Copy)]
 pub(crate) struct Marked<'a> {
-    pub(crate) naming: &'a Naming,
-    pub(crate) column: Column,
+    pub(crate) view: View<'a>,
     pub(crate) list: &'a [Statement],
 }
 
 /// Does the statement mark the table at the column?
-fn marks(naming: &Naming, column: Column, x: Statement, table: u8) -> bool
-    ensures { result ≡ bears (present (mark_at (setting_of naming.now) column x ∷ [])) table }
+fn marks(view: &View<'_>, x: Statement, table: u8) -> bool
+    ensures { result ≡ bears (present (mark_at (setting_of view.now.naming.now) view.now.column x ∷ [])) table }
 {
-    mark_at(naming, column, x).is_some_and(|(t, _)| t == table)
+    view.mark(x).is_some_and(|(t, _)| t == table)
 }
 
-/// Does one of the statements mark the table at the column?
-fn is_marked(naming: &Naming, column: Column, list: &[Statement], table: u8) -> bool
-    ensures { result ≡ bears (marks_at (setting_of naming.now) list.now column) table }
-{
-    list.iter().any(|x| marks(naming, column, *x, table))
-}
-
-impl<'a> Goal for Marked<'a> {
-    ghost test = { λ x. bears (marks_at (setting_of x.naming.now) x.list.now x.column) };
+impl Goal for Marked<'_> {
+    ghost test = { λ x. bears (marks_at (setting_of x.view.naming.now) x.list.now x.view.column) };
 
     fn met(&self, name: u8) -> bool {
-        is_marked(self.naming, self.column, self.list, name)
+        self.list.iter().any(|x| marks(&self.view, *x, name))
     }
 }

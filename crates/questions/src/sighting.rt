@@ -5,7 +5,7 @@ ghost use Rattle.arrangement.specs.Stored.{lowest_of};
 ghost use Rattle.column.specs.Sights.{SeenAt};
 ghost use Rattle.questions.specs.Asked.{list_in, setting_in};
 
-use column::{Sight, sight_of};
+use column::{Sight, View};
 use meaning::Column;
 use standing::Standing;
 
@@ -16,9 +16,20 @@ pub(crate) fn lowest_slot(standing: &Standing, i: u8) -> Option<u8>
     standing.naming().slots.lowest(i)
 }
 
+/// A column, with the classes under which the standing statements are read.
+pub(crate) fn view_in(standing: &Standing, column: Column) -> View<'_>
+    ensures naming { result.naming.now ≡ standing.now.naming }
+    ensures column { result.column ≡ column }
+{
+    View {
+        naming: standing.naming(),
+        column,
+    }
+}
+
 /// The sight of a column of the standing statements.
 pub(crate) fn sight_in(standing: &Standing, column: Column) -> Sight
     ensures { SeenAt (setting_in standing.now) (list_in standing.now) column result }
 {
-    sight_of(standing.naming(), column, standing.statements())
+    view_in(standing, column).sight(&[standing.statements()])
 }

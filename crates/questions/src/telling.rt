@@ -7,7 +7,7 @@ ghost use Rattle.questions.specs.Asked.{list_in, setting_in, told_answer};
 use crate::gathered::Gathered;
 use crate::gathering::gather;
 use crate::marked::Marked;
-use crate::sighting::{lowest_slot, sight_in};
+use crate::sighting::{lowest_slot, sight_in, view_in};
 use meaning::Column;
 use search::entry::Reached;
 use search::search::search;
@@ -30,8 +30,7 @@ impl Asked<'_> {
     {
         let links = gather(self.standing, self.column);
         let marked = Marked {
-            naming: self.standing.naming(),
-            column: self.column,
+            view: view_in(self.standing, self.column),
             list: self.standing.statements(),
         };
         search::<Gathered, Marked<'_>, Reached>(&links, &marked, self.table)

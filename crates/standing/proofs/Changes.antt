@@ -95,14 +95,15 @@ module _ (t : ℕ) (naming : Naming) where
     offered_within : is_within t w x ≡ true → within (x ∷ xs) ≡ true
     offered_within named = and_from (is_within t w x) (within xs) named (and_parts (within xs) (test w xs) h).0
 
-    offered_readable : t ≤ 128 → is_within t w x ≡ true → Readable w (x ∷ xs)
-    offered_readable few named y m = within_more t 128 w few y (all_has (is_within t w) (x ∷ xs) y (offered_within named) m)
+    pub offered_readable : t ≤ 128 → true ≡ is_within t w x → (ys : List Statement) → ys ≡ xs → Readable w (x ∷ ys)
+    offered_readable few named ys lent =
+        subst (λ (l : List Statement). Readable w (x ∷ l)) (sym lent)
+        (λ y m. within_more t 128 w few y (all_has (is_within t w) (x ∷ xs) y (offered_within (sym named)) m))
 
-    pub offered_answer : t ≤ 128 → true ≡ is_within t w x → (ys : List Statement) → ys ≡ xs
-        → (r : Bool) → (Readable w (x ∷ ys) → r ≡ test w (x ∷ ys)) → r ≡ (is_within t w x && test w (x ∷ xs))
-    offered_answer few named ys lent r answer =
-        answer (subst (λ (l : List Statement). Readable w (x ∷ l)) (sym lent) (offered_readable few (sym named)))
-        ∙ ap (λ (l : List Statement). test w (x ∷ l)) lent ∙ ap (λ b. b && test w (x ∷ xs)) named
+    pub offered_answer : true ≡ is_within t w x → (ys : List Statement) → ys ≡ xs
+        → (r : Bool) → r ≡ test w (x ∷ ys) → r ≡ (is_within t w x && test w (x ∷ xs))
+    offered_answer named ys lent r answer =
+        answer ∙ ap (λ (l : List Statement). test w (x ∷ l)) lent ∙ ap (λ b. b && test w (x ∷ xs)) named
 
     pub added_stands : true ≡ (is_within t w x && test w (x ∷ xs)) → is_standing t naming (xs ++ x ∷ []) ≡ true
     added_stands e =

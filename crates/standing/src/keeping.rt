@@ -4,10 +4,9 @@ ghost use Rattle.std.specs.Prelude.{◌≡◌, slice_get};
 ghost use Rattle.standing.specs.Stands.{added, admits, fitting, nothing, opened, opens, removed, stands_of};
 
 use crate::memory::{MOST, Room};
-use crate::names::is_within;
 use crate::standing::Standing;
 use column::Naming;
-use decision::fits;
+use decision::Trial;
 use statement::Statement;
 
 /// How many tables there can be.
@@ -41,8 +40,16 @@ impl Standing {
     pub fn fits(&self, offered: Statement) -> bool
         ensures { result ≡ fitting (stands_of self.now) offered }
     {
-        is_within(self.tables, &self.naming, offered)
-            && fits(&self.naming, offered, &[], self.list.as_slice())
+        if !self.naming.is_within(self.tables, offered) {
+            return false;
+        }
+        let trial = Trial {
+            naming: &self.naming,
+            offered,
+            kept: &[],
+            rest: self.list.as_slice(),
+        };
+        trial.fits()
     }
 
     /// Adds a statement at the end, if there is a place for it and it fits with those that stand, and answers whether it did.

@@ -1,21 +1,16 @@
--- The positions are written one by one.
-use Rattle.std.proofs.Common.{◌≡◌, ◌+◌, sym, ap, ◌∙◌, arith, length-set}
+use Rattle.std.proofs.Common.{◌≡◌, ◌+◌, ◌-◌, ◌<◌, ◌++◌, [], ◌∷◌, length, sym, ap, ◌∙◌, arith}
 use Rattle.std.specs.List.{range_with_len}
 use Rattle.std.proofs.lemmas.List.FromFn.{length-range_with_len}
-use Rattle.decision.specs.Citations.{padded}
-use Rattle.decision.proofs.Padding.{citation_is, counting_more, padded_more}
+use Rattle.std.proofs.lemmas.Bool.{cond-true, lt-ltb}
+use Rattle.bounded.specs.Items.{items_of}
+use Rattle.decision.proofs.Padding.{counting_more}
 use Rattle.decision.proofs.cite.all.Goals as goal
 
-pub loop-i-preserved : goal.loop-i-preserved
-loop-i-preserved c =
-    let i = c.loop-i.i in (
-      simp length-set (omega arith),
-      padded_more (range_with_len 1 i) c.loop-i.positions i (i + 1) c.loop-i.invariant.1 (length-range_with_len 1 i) (omega arith)
-          ∙ ap padded (sym (counting_more 1 i (i + 1) (omega arith))),
-    )
-
-pub returns : goal.returns
-returns c =
-    let count = c.args.count in
-    let e : c.loop-i.i ≡ count = omega arith in
-    citation_is (range_with_len 1 count) c.loop-i.positions count (c.loop-i.invariant.1 ∙ ap (λ k. padded (range_with_len 1 k)) e) (length-range_with_len 1 count)
+pub loop-position-preserved : goal.loop-position-preserved
+loop-position-preserved c =
+    let p = c.loop-position.position in
+    let e : (p - 1) + 1 ≡ (p + 1) - 1 = omega arith in
+    let room : length (items_of c.loop-position.positions) < 512 =
+    omega (arith, ap length c.loop-position.invariant, length-range_with_len 1 (p - 1)) in
+    c.push.ensures.holds ∙ cond-true _ _ _ (lt-ltb (length (items_of c.loop-position.positions)) 512 room)
+    ∙ ap (λ ps. ps ++ p ∷ []) c.loop-position.invariant ∙ sym (counting_more 1 (p - 1) p (omega arith)) ∙ ap (range_with_len 1) e

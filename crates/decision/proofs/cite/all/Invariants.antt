@@ -1,7 +1,7 @@
-use Rattle.std.proofs.Common.{◌≡◌, length}
+use Rattle.std.proofs.Common.{◌≡◌, ◌-◌}
 use Rattle.std.specs.List.{range_with_len}
-use Rattle.decision.specs.Citations.{padded}
+use Rattle.bounded.specs.Items.{items_of}
 use Rattle.decision.proofs.cite.all.Given as goal
 
-abbrev pub invariant-loop-i : goal.invariant-loop-i
-invariant-loop-i l = (length l.positions ≡ 512) × (l.positions ≡ padded (range_with_len 1 l.i))
+abbrev pub invariant-loop-position : goal.invariant-loop-position
+invariant-loop-position l = items_of l.positions ≡ range_with_len 1 (l.position - 1)

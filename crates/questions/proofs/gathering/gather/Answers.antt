@@ -12,12 +12,12 @@ use Rattle.questions.proofs.gathering.gather.Goals as goal
 pub invariant_of-result : goal.invariant_of-result
 invariant_of-result c =
     let s = c.args.standing.now in
-    let n = c.naming-naming in
+    let v = c.view_in-view in
     let xs = c.statements-x-items in
     let is : items_of c.loop-x.links ≡ links_in s c.args.column =
-        c.loop-x.invariant
-        ∙ ap (map (link_at (setting_of n.result.now) c.args.column)) (take_all c.loop-x.x-index xs.result.now c.loop-x-test.false)
-        ∙ (λ i. map (link_at (setting_of (n.ensures i)) c.args.column) (xs.ensures i)) in
+    c.loop-x.invariant
+    ∙ ap (map (link_at (setting_of v.result.naming.now) v.result.column)) (take_all c.loop-x.x-index xs.result.now c.loop-x-test.false)
+    ∙ (λ i. map (link_at (setting_of (v.ensures.naming i)) (v.ensures.column i)) (xs.ensures i)) in
     let inside = subst (λ links. all_of (is_inside s.tables) links ≡ true) (sym is) (links_inside s c.args.column) in
     record {
       few = omega (arith, s.few, c.tables.ensures);

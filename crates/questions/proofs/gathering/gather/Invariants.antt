@@ -6,4 +6,4 @@ use Rattle.questions.proofs.gathering.gather.Given as goal
 
 -- the links of the statements so far
 abbrev pub invariant-loop-x : goal.invariant-loop-x
-invariant-loop-x l = items_of l.links ≡ map (link_at (setting_of l.naming) l.column) (take l.x-index l.x-items)
+invariant-loop-x l = items_of l.links ≡ map (link_at (setting_of l.view.naming.now) l.view.column) (take l.x-index l.x-items)

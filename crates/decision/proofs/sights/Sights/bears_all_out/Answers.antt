@@ -1,19 +1,14 @@
-use Rattle.std.proofs.Common.{sym}
+use Rattle.std.proofs.Common.{Bool, ◌∙◌, rules, tests}
+use Rattle.std.proofs.lemmas.Iterator.{YieldsList-from_slice}
+use Rattle.std.proofs.lemmas.Iterator.Search.{all_from_yields_List}
 use Rattle.decision.specs.Looks.{is_borne_out}
-use Rattle.decision.proofs.Runs.{all_done, all_more, all_not}
+use Rattle.column.proofs.Parts.{all_is}
 use Rattle.meaning.specs.Columns.{difference}
+use Rattle.statement.specs.declared.Statement.{Statement}
 use Rattle.decision.proofs.sights.Sights.bears_all_out.Goals as goal
-
-pub returns-then-not-bears_out : goal.returns-then-not-bears_out
-returns-then-not-bears_out c =
-    sym (all_not (λ x. is_borne_out c.args.self.now (difference x)) c.args.xs.now c.loop-x.x-index _ c.loop-x-test.true
-    (sym c.if-not-bears_out.ensures))
-
-pub loop-x-preserved : goal.loop-x-preserved
-loop-x-preserved c =
-    all_more (λ x. is_borne_out c.args.self.now (difference x)) c.args.xs.now c.loop-x.x-index _ c.loop-x-test.true
-    (sym c.if-not-bears_out.ensures) c.loop-x.invariant
 
 pub returns : goal.returns
 returns c =
-    sym (all_done (λ x. is_borne_out c.args.self.now (difference x)) c.args.xs.now c.loop-x.x-index c.loop-x-test.false c.loop-x.invariant)
+    let borne : Statement → Bool = λ x. is_borne_out c.args.self.now (difference x) in
+    all_from_yields_List borne _ _ _ c.all.ensures.ran (YieldsList-from_slice c.args.xs.now cc) (λ x b q k. search (rules, tests))
+    ∙ all_is borne c.args.xs.now

@@ -1,5 +1,11 @@
-use Rattle.std.proofs.Common.{◌∙◌}
+use Rattle.std.proofs.Common.{ap, ◌∙◌}
 use Rattle.bounded.specs.Items.{items_of}
+use Rattle.links.specs.Lists.{present}
+use Rattle.column.specs.Naming.{setting_of}
+use Rattle.meaning.specs.declared.column.Column.{Column}
+use Rattle.meaning.specs.Answers.{bears}
+use Rattle.meaning.specs.Columns.{marks_at}
+use Rattle.search.specs.Entries.{searched}
 use Rattle.questions.proofs.Distances.{distance_is}
 use Rattle.questions.proofs.telling.Asked.distance.Goals as goal
 
@@ -7,7 +13,9 @@ pub returns : goal.returns
 returns c =
     let s = c.args.self.now in
     let links = c.gather-links.result in
+    let v = c.view_in in
+    let xs = c.statements in
     c.search.ensures.is
-    ∙ distance_is s.standing.now s.column s.table links.tables (items_of links.links)
-    c.naming.result.now c.statements.result.now
-    c.gather-links.ensures.tables c.gather-links.ensures.links c.naming.ensures c.statements.ensures s.below
+    ∙ ap (λ (k : Column). searched links.tables (present (items_of links.links)) (bears (marks_at (setting_of v.result.naming.now) xs.result.now k)) s.table) v.ensures.column
+    ∙ distance_is s.standing.now s.column s.table links.tables (items_of links.links) v.result.naming.now xs.result.now
+    c.gather-links.ensures.tables c.gather-links.ensures.links v.ensures.naming xs.ensures s.below

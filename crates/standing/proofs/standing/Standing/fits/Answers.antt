@@ -1,9 +1,17 @@
 use Rattle.std.proofs.Common.{vec_items}
-use Rattle.standing.proofs.Changes.{offered_answer}
+use Rattle.standing.proofs.Changes.{offered_answer, offered_readable}
 use Rattle.standing.proofs.standing.Standing.fits.Goals as goal
 
-pub returns-then-is_within : goal.returns-then-is_within
-returns-then-is_within c =
+pub invariant_of-trial : goal.invariant_of-trial
+invariant_of-trial c =
     let s = c.args.self.now in
-    offered_answer s.tables s.naming c.args.offered (vec_items s.list) s.stands s.few
-    c.if-is_within.ensures c.as_slice.result.now c.as_slice.ensures.value c.fits.result c.fits.ensures
+    record {
+      readable = offered_readable s.tables s.naming c.args.offered (vec_items s.list) s.stands s.few
+          c.if-not-is_within.ensures c.as_slice.result.now c.as_slice.ensures.value;
+    }
+
+pub returns : goal.returns
+returns c =
+    let s = c.args.self.now in
+    offered_answer s.tables s.naming c.args.offered (vec_items s.list) s.stands
+    c.if-not-is_within.ensures c.as_slice.result.now c.as_slice.ensures.value c.fits.result c.fits.ensures
