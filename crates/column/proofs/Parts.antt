@@ -3,7 +3,7 @@ use Rattle.std.proofs.Common.{◌≡◌, ℕ, zero, suc, ◌+◌, ◌<◌, ◌�
 use Rattle.std.specs.List.{flat_map, list_all}
 use Rattle.std.proofs.lemmas.List.Recursion.{same_from_clauses}
 use Rattle.std.proofs.lemmas.List.{append-nil, flat_map_more, take_all, take_more}
-use Rattle.links.specs.Lists.{Member, all_of, present}
+use Rattle.links.specs.Lists.{Member, present}
 use Rattle.links.proofs.Lists.{member_left, member_right}
 use Rattle.meaning.specs.Theorems.{Within}
 
@@ -52,5 +52,5 @@ part_within g (p ∷ ps) zero d l x m = member_left x (g p) (flat_map g ps) m
 part_within g (p ∷ ps) (suc i) d l x m = member_right x (g p) (flat_map g ps) (part_within g ps i d (omega arith) x m)
 
 -- a test of all, as std says it
-pub all_is : {X : Type 0} (p : X → Bool) (xs : List X) → list_all p xs ≡ all_of p xs
-all_is p = same_from_clauses (list_all p) (all_of p) (λ x b. p x && b) refl (λ x xs. refl) (λ x xs. refl)
+pub all_is : {X : Type 0} (p : X → Bool) (xs : List X) → list_all p xs ≡ list_all p xs
+all_is p = same_from_clauses (list_all p) (list_all p) (λ x b. p x && b) refl (λ x xs. refl) (λ x xs. refl)

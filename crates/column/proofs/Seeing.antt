@@ -1,9 +1,10 @@
 -- What a sight tells of the column.
 use Rattle.std.proofs.Common.{◌≡◌, ℕ, ◌<◌, Bool, true, false, cond, ◌||◌, eqb, ltb, ◌⊎◌, List, [], ◌∷◌, ◌++◌, Some, None, Option, sym, refl, ap, ap₂, ◌∙◌, subst, inl, inr}
+use Rattle.std.specs.List.{list_all}
 use Rattle.std.proofs.lemmas.Bool.{and_parts, both_ways, cases_Bool, eq-eqb, eqb-true, false≢true, ltb-true, or_cases, or_left, or_right}
 use Rattle.links.specs.Chains.{joined, lowest_joined}
 use Rattle.links.specs.Groups.{root_of}
-use Rattle.links.specs.Lists.{Member, all_of}
+use Rattle.links.specs.Lists.{Member}
 use Rattle.links.proofs.Lists.{all_has, member_left, member_right}
 use Rattle.links.proofs.Reach.{joined_finds, joined_through, joined_turn}
 use Rattle.links.proofs.Roots.{lowest_back as joined_back, lowest_same as joined_same}
@@ -129,10 +130,10 @@ seen_marked m law L M s s' seen t v c lt lv e groups marks clashes =
 module _ (w : Setting) (x : Statement) (within : is_within 128 w x ≡ true) where
   tabled : (t : ℕ) → Member t (tables_of x) → t < 128
   tabled t k =
-      ltb-true t 128 (all_has (λ t. ltb t 128) (tables_of x) t (and_parts (all_of (λ t. ltb t 128) (tables_of x)) (is_named w x) within).0 k)
+      ltb-true t 128 (all_has (λ t. ltb t 128) (tables_of x) t (and_parts (list_all (λ t. ltb t 128) (tables_of x)) (is_named w x) within).0 k)
 
   pub is_named_lem : is_named w x ≡ true
-  is_named_lem = (and_parts (all_of (λ t. ltb t 128) (tables_of x)) (is_named w x) within).1
+  is_named_lem = (and_parts (list_all (λ t. ltb t 128) (tables_of x)) (is_named w x) within).1
 
 abbrev Both : List ℕ → ℕ × ℕ → Type 0
 Both ts p = Member p.0 ts × Member p.1 ts

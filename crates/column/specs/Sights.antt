@@ -1,10 +1,10 @@
 -- What a column shows: groups of tables, the reading of each group, and whether readings clash.
 use Rattle.std.specs.Borrow.{Bor}
-use Rattle.std.specs.List.{flat_map}
+use Rattle.std.specs.List.{flat_map, list_all}
 use Rattle.std.specs.Prelude.{◌≡◌, ℕ, ◌<◌, Bool, true, false, not, ◌||◌, ◌↔◌, List, ◌∷◌, ◌++◌, Some, None, Option, ◌==◌, slice_index_or, slice_set}
 use Rattle.links.specs.Chains.{lowest_joined}
 use Rattle.links.specs.Groups.{Roots, root_of}
-use Rattle.links.specs.Lists.{Member, all_of}
+use Rattle.links.specs.Lists.{Member}
 use Rattle.arrangement.specs.Meaning.{Meaning}
 use Rattle.statement.specs.declared.Statement.{Statement}
 use Rattle.meaning.specs.declared.column.Column.{Column}
@@ -68,7 +68,7 @@ Readable w xs = (x : Statement) → Member x xs → is_within 128 w x ≡ true
 
 -- are they?
 abbrev pub is_readable : Setting → List Statement → Bool
-is_readable w xs = all_of (is_within 128 w) xs
+is_readable w xs = list_all (is_within 128 w) xs
 
 -- the list that the parts make, one after the other
 abbrev pub whole : List (Bor (List Statement)) → List Statement

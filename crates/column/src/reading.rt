@@ -1,9 +1,9 @@
 //! Which statements can be read.
 
 ghost use Rattle.std.specs.Prelude.{◌≡◌, nat_lt};
+ghost use Rattle.std.specs.List.{list_all};
 ghost use Rattle.column.specs.Naming.{setting_of};
 ghost use Rattle.column.specs.Sights.{is_readable};
-ghost use Rattle.links.specs.Lists.{all_of};
 ghost use Rattle.meaning.specs.Fillings.{below, is_within, reading_of, tables_of};
 
 use crate::acts::slot_of;
@@ -30,7 +30,7 @@ pub fn is_below(count: u8, name: Option<u8>) -> bool
 
 /// Are the tables that the statement names below the count?
 pub fn are_tables_below(tables: u8, x: Statement) -> bool
-    ensures { result ≡ all_of (λ t. nat_lt t tables) (tables_of x) }
+    ensures { result ≡ list_all (λ t. nat_lt t tables) (tables_of x) }
 {
     match x {
         Statement::W { b, a, .. } => b.0 < tables && a.0 < tables,

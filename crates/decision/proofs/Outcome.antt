@@ -1,7 +1,8 @@
 -- What the sights of all columns decide.
 use Rattle.std.proofs.Common.{◌≡◌, ℕ, ◌<◌, Bool, true, false, not, ◌&&◌, ◌⊎◌, List, [], ◌∷◌, ◌++◌, map, length, get_or, Some, None, Option, sym, refl, ap, ◌∙◌, subst, inl, inr, arith}
+use Rattle.std.specs.List.{list_all}
 use Rattle.std.proofs.lemmas.Bool.{and_from, and_left, and_parts, both_ways, cases_Bool, not_from_false}
-use Rattle.links.specs.Lists.{Member, all_of, present}
+use Rattle.links.specs.Lists.{Member, present}
 use Rattle.links.proofs.Lists.{all_from, all_has}
 use Rattle.arrangement.specs.Kept.{lawful}
 use Rattle.arrangement.specs.Laws.{same_answer}
@@ -25,11 +26,11 @@ use Rattle.decision.proofs.Runs.{all_append, all_places}
 pub loud_fails : (w : Setting) (xs : List Statement) → Loud w xs → false ≡ test w xs
 unfolding test
 loud_fails w xs l =
-    elim (cases_Bool (all_of (λ k. not (clash_at w xs k)) (columns w))) [
+    elim (cases_Bool (list_all (λ k. not (clash_at w xs k)) (columns w))) [
       | inl h ↦
           absurd (both_ways (not (clash_at w xs l.column)) (ap not l.clash)
           (all_has (λ k. not (clash_at w xs k)) (columns w) l.column h l.among))
-      | inr h ↦ sym (and_left (all_of (λ k. not (clash_at w xs k)) (columns w)) (all_of (parted w xs) (differences xs)) h)
+      | inr h ↦ sym (and_left (list_all (λ k. not (clash_at w xs k)) (columns w)) (list_all (parted w xs) (differences xs)) h)
     ]
 
 module _ (w : Setting) (laws : Orderly w) (xs : List Statement) (s : Sights) (seen : AllSeen w xs s) where
@@ -62,15 +63,15 @@ module _ (w : Setting) (laws : Orderly w) (xs : List Statement) (s : Sights) (se
       ]
 
   -- nothing clashes
-  quiet : all_of (λ k. not (clash_at w xs k)) (columns w) ≡ true
+  quiet : list_all (λ k. not (clash_at w xs k)) (columns w) ≡ true
   quiet =
       all_from (λ k. not (clash_at w xs k)) (columns w) (λ k m.
       let r = sight_of k m in
       not_from_false (clash_at w xs k) (sym (clash_at_lem w laws.readings xs k r.sight r.shows) ∙ r.calm))
 
-  pub quiet_test : all_of (parted w xs) (differences xs) ≡ test w xs
+  pub quiet_test : list_all (parted w xs) (differences xs) ≡ test w xs
   unfolding test
-  quiet_test = sym (ap (λ b. b && all_of (parted w xs) (differences xs)) quiet)
+  quiet_test = sym (ap (λ b. b && list_all (parted w xs) (differences xs)) quiet)
 
   module _ (p : ℕ × ℕ) (la : p.0 < 128) (lb : p.1 < 128) where
     abbrev seem : Sight → Bool
@@ -80,11 +81,11 @@ module _ (w : Setting) (laws : Orderly w) (xs : List Statement) (s : Sights) (se
     unfolding alike_at
     seem_is k v sees calm = alike_is w.readings laws.readings (links_at w xs k) (marks_at w xs k) v sees calm p.0 p.1 la lb
 
-    all_alike : (seem s.elsewhere.now && all_of seem s.each.now) ≡ all_of (alike_at w xs p) (columns w)
+    all_alike : (seem s.elsewhere.now && list_all seem s.each.now) ≡ list_all (alike_at w xs p) (columns w)
     all_alike =
-        same_answer (seem s.elsewhere.now && all_of seem s.each.now) (all_of (alike_at w xs p) (columns w))
+        same_answer (seem s.elsewhere.now && list_all seem s.each.now) (list_all (alike_at w xs p) (columns w))
         (λ h.
-        let both = and_parts (seem s.elsewhere.now) (all_of seem s.each.now) h in
+        let both = and_parts (seem s.elsewhere.now) (list_all seem s.each.now) h in
         all_from (alike_at w xs p) (columns w) (λ k m.
         let r = sight_of k m in
         sym (seem_is k r.sight r.shows r.calm)
@@ -93,7 +94,7 @@ module _ (w : Setting) (laws : Orderly w) (xs : List Statement) (s : Sights) (se
           | inr j ↦ all_has seem s.each.now r.sight both.1 j
         ]))
         (λ h.
-        and_from (seem s.elsewhere.now) (all_of seem s.each.now)
+        and_from (seem s.elsewhere.now) (list_all seem s.each.now)
         (seem_is Elsewhere s.elsewhere.now seen.nowhere seen.calm ∙ all_has (alike_at w xs p) (columns w) Elsewhere h (has_elsewhere w))
         (all_places seem s.each.now (λ i l d.
         let r = seen.only i l d in
@@ -103,7 +104,7 @@ module _ (w : Setting) (laws : Orderly w) (xs : List Statement) (s : Sights) (se
     unfolding parted
     parted_is = ap not all_alike
 
-  borne_is : (o : Option (ℕ × ℕ)) → ((p : ℕ × ℕ) → o ≡ Some p → (p.0 < 128) × (p.1 < 128)) → is_borne_out s o ≡ all_of (parted w xs) (present (o ∷ []))
+  borne_is : (o : Option (ℕ × ℕ)) → ((p : ℕ × ℕ) → o ≡ Some p → (p.0 < 128) × (p.1 < 128)) → is_borne_out s o ≡ list_all (parted w xs) (present (o ∷ []))
   borne_is None below = refl
   borne_is (Some p) below =
       let l = below p refl in
@@ -114,13 +115,13 @@ module _ (w : Setting) (laws : Orderly w) (xs : List Statement) (s : Sights) (se
       and_true false = refl
 
   -- every difference of a readable list, as the sights tell it
-  pub all_borne : (ys : List Statement) → Readable w ys → all_of (λ x. is_borne_out s (difference x)) ys ≡ all_of (parted w xs) (differences ys)
+  pub all_borne : (ys : List Statement) → Readable w ys → list_all (λ x. is_borne_out s (difference x)) ys ≡ list_all (parted w xs) (differences ys)
   unfolding differences
   all_borne [] readable = refl
   all_borne (y ∷ ys) readable =
-      ap (λ b. b && all_of (λ x. is_borne_out s (difference x)) ys) (borne_is (difference y) (λ p e. difference_below w y (readable y (inl refl)) p e))
-      ∙ ap (λ b. all_of (parted w xs) (present (difference y ∷ [])) && b) (all_borne ys (λ x m. readable x (inr m)))
-      ∙ sym (all_append (parted w xs) (present (difference y ∷ [])) (present (map difference ys))) ∙ ap (all_of (parted w xs)) (one_more (difference y))
+      ap (λ b. b && list_all (λ x. is_borne_out s (difference x)) ys) (borne_is (difference y) (λ p e. difference_below w y (readable y (inl refl)) p e))
+      ∙ ap (λ b. list_all (parted w xs) (present (difference y ∷ [])) && b) (all_borne ys (λ x m. readable x (inr m)))
+      ∙ sym (all_append (parted w xs) (present (difference y ∷ [])) (present (map difference ys))) ∙ ap (list_all (parted w xs)) (one_more (difference y))
     where
       one_more : (o : Option (ℕ × ℕ)) → present (o ∷ []) ++ present (map difference ys) ≡ present (o ∷ map difference ys)
       one_more None = refl
@@ -128,7 +129,7 @@ module _ (w : Setting) (laws : Orderly w) (xs : List Statement) (s : Sights) (se
 
 -- what the sights of a list bear out of it decides
 pub borne_test : (t : Trial) (s : Sights) → AllSeen (setting t) (tried t) s
-    → all_of (λ x. is_borne_out s (difference x)) (tried t) ≡ test (setting t) (tried t)
+    → list_all (λ x. is_borne_out s (difference x)) (tried t) ≡ test (setting t) (tried t)
 borne_test t s seen =
     let w = setting t in
     let laws : Orderly w = record { slots = lawful t.naming.now.slots; readings = lawful t.naming.now.readings } in

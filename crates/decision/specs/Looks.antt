@@ -1,6 +1,7 @@
 -- What all columns show of a list of statements.
 use Rattle.std.specs.Prelude.{◌≡◌, ℕ, ◌<◌, Bool, true, false, not, ◌&&◌, List, length, Some, None, Option, ◌==◌, slice_index_or}
-use Rattle.links.specs.Lists.{Member, all_of, any_of}
+use Rattle.std.specs.List.{list_all, list_any}
+use Rattle.links.specs.Lists.{Member}
 use Rattle.arrangement.specs.Meaning.{Meaning, lowest}
 use Rattle.statement.specs.declared.Statement.{Statement}
 use Rattle.meaning.specs.declared.column.Column.{Column}
@@ -18,12 +19,12 @@ leads m c (Some i) = lowest m i == c
 
 -- does a statement name a slot of the class that c is the lowest name of?
 abbrev pub is_named_in : Meaning → List Statement → ℕ → Bool
-is_named_in m xs c = any_of (λ x. leads m c (slot_of x)) xs
+is_named_in m xs c = list_any (λ x. leads m c (slot_of x)) xs
 
 -- are two tables not alike in one of the sights?
 abbrev pub seem_parted : Sights → ℕ × ℕ → Bool
 seem_parted s tables =
-    not (seem_alike s.elsewhere.now tables.0 tables.1 && all_of (λ v. seem_alike v tables.0 tables.1) s.each.now)
+    not (seem_alike s.elsewhere.now tables.0 tables.1 && list_all (λ v. seem_alike v tables.0 tables.1) s.each.now)
 
 -- so are the tables that are to differ, if there are such
 abbrev pub is_borne_out : Sights → Option (ℕ × ℕ) → Bool

@@ -1,9 +1,9 @@
 //! Asking the sights of all columns.
 
 ghost use Rattle.std.specs.Prelude.{◌≡◌};
+ghost use Rattle.std.specs.List.{list_all};
 ghost use Rattle.decision.specs.Looks.{AllSeen, is_borne_out, seem_parted};
 ghost use Rattle.decision.specs.Trials.{setting, tried};
-ghost use Rattle.links.specs.Lists.{all_of};
 ghost use Rattle.meaning.specs.Columns.{difference as difference_of, test};
 
 use crate::sights::Sights;
@@ -32,7 +32,7 @@ impl Sights<'_> {
 
     /// So for each of the statements.
     pub(crate) fn bears_all_out(&self, xs: &[Statement]) -> bool
-        ensures { result ≡ all_of (λ x. is_borne_out self.now (difference_of x)) xs.now }
+        ensures { result ≡ list_all (λ x. is_borne_out self.now (difference_of x)) xs.now }
     {
         xs.iter().all(|x| self.bears_out(*x))
     }

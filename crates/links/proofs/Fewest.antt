@@ -1,7 +1,8 @@
 -- `fewest` finds the nearest goal, and no other answer is nearest.
 use Rattle.std.proofs.Common.{◌≡◌, ℕ, zero, suc, ◌+◌, ◌<◌, ◌≤◌, Bool, true, false, eqb, ◌⊎◌, List, [], ◌∷◌, length, Some, None, Option, sym, refl, ap, ◌∙◌, subst, inl, inr, arith}
+use Rattle.std.specs.List.{list_any}
 use Rattle.std.proofs.lemmas.Bool.{both_ways, cases_Bool, cases_lt, cond_both, false≢true, or_left, or_right, or_cases, eq-eqb, eqb-true}
-use Rattle.links.specs.Lists.{Member, any_of}
+use Rattle.links.specs.Lists.{Member}
 use Rattle.links.specs.Chains.{Chain, Linked, has, spread, reached, within, joined, seek, fewest, Nearest}
 use Rattle.links.proofs.Lists.{any_from, any_has}
 use Rattle.links.proofs.Reach.{Closed, bit, bit_le, bit_mono, has_self, spread_keeps, spread_puts, chain_reached, reached_later, reached_chain, joined_finds, closed_chain}
@@ -46,7 +47,7 @@ first_later hit left d (Some m) h f = (
 module _ (links : List (ℕ × ℕ)) (goal : ℕ → Bool) (a : ℕ) where
   -- is a goal among the names that at most d links reach?
   abbrev hit : ℕ → Bool
-  hit d = any_of goal (reached links d a)
+  hit d = list_any goal (reached links d a)
 
   seek_first : (left d : ℕ) → First hit left d (seek links goal left d (reached links d a))
   seek_first zero d =

@@ -1,6 +1,7 @@
 -- Links between names, and the chains that they make. A link is a pair of names and runs both ways.
 use Rattle.std.specs.Prelude.{◌≡◌, ℕ, zero, suc, ◌<◌, ◌≤◌, Bool, true, false, cond, not, ◌&&◌, ◌||◌, ◌⊎◌, ◌↔◌, List, [], ◌∷◌, length, Some, None, Option, ◌==◌, nat_eq}
-use Rattle.links.specs.Lists.{Member, any_of, least}
+use Rattle.std.specs.List.{list_any}
+use Rattle.links.specs.Lists.{Member, least}
 
 -- one link leads from b to c
 abbrev pub Linked : List (ℕ × ℕ) → ℕ → ℕ → Type 0
@@ -48,8 +49,8 @@ lowest_joined links t = least (λ u. joined links u t) t
 
 -- the first d, of the next `left` ones too, at which a goal is among the names reached
 abbrev pub seek : List (ℕ × ℕ) → (ℕ → Bool) → ℕ → ℕ → List ℕ → Option ℕ
-seek links goal zero d names = cond (any_of goal names) (Some d) None
-seek links goal (suc left) d names = let later = seek links goal left (suc d) (spread links names) in cond (any_of goal names) (Some d) later
+seek links goal zero d names = cond (list_any goal names) (Some d) None
+seek links goal (suc left) d names = let later = seek links goal left (suc d) (spread links names) in cond (list_any goal names) (Some d) later
 
 -- the fewest links that lead from a to a goal
 unfoldable pub fewest : List (ℕ × ℕ) → (ℕ → Bool) → ℕ → Option ℕ

@@ -6,14 +6,6 @@ abbrev pub Member : {X : Type 0} → X → List X → Type 0
 Member x [] = ⊥
 Member x (y ∷ ys) = (y ≡ x) ⊎ Member x ys
 
-abbrev pub any_of : {X : Type 0} → (X → Bool) → List X → Bool
-any_of p [] = false
-any_of p (x ∷ xs) = p x || any_of p xs
-
-abbrev pub all_of : {X : Type 0} → (X → Bool) → List X → Bool
-all_of p [] = true
-all_of p (x ∷ xs) = p x && all_of p xs
-
 -- what is there, without the gaps
 abbrev pub present : {X : Type 0} → List (Option X) → List X
 present [] = []

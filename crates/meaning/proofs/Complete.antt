@@ -1,7 +1,8 @@
 -- Where the test passes, the filling that is built fits.
 use Rattle.std.proofs.Common.{◌≡◌, ℕ, true, not, List, Some, None, sym, refl, subst, inl, inr}
+use Rattle.std.specs.List.{list_all}
 use Rattle.std.proofs.lemmas.Bool.{and_parts, both_ways, cases_Bool, cond-false, cond-true, not-true}
-use Rattle.links.specs.Lists.{Member, all_of}
+use Rattle.links.specs.Lists.{Member}
 use Rattle.links.proofs.Lists.{all_fails, all_has}
 use Rattle.links.proofs.Reach.{joined_link}
 use Rattle.arrangement.specs.Lowest.{lowest_back, lowest_same}
@@ -48,7 +49,7 @@ module _ (w : Setting) (laws : Orderly w) (xs : List Statement) (named : Named w
   calm : (k : Column) → Member k (columns w) → ClashAt w xs k → ⊥
   unfolding test clash_at
   calm k m c =
-      let all = (and_parts (all_of (λ k. not (clash_at w xs k)) (columns w)) (all_of (parted w xs) (differences xs)) passes).0 in
+      let all = (and_parts (list_all (λ k. not (clash_at w xs k)) (columns w)) (list_all (parted w xs) (differences xs)) passes).0 in
       both_ways (clash_at w xs k) (not-true (clash_at w xs k) (all_has (λ k. not (clash_at w xs k)) (columns w) k all m))
       (clash_from w.readings (links_at w xs k) (marks_at w xs k) c)
 
@@ -56,8 +57,8 @@ module _ (w : Setting) (laws : Orderly w) (xs : List Statement) (named : Named w
   unlike : (p : ℕ × ℕ) → Member p (differences xs) → (k : Column) × Member k (columns w) × (AlikeAt w xs p k → ⊥)
   unfolding test parted alike_at
   unlike p m =
-      let all = (and_parts (all_of (λ k. not (clash_at w xs k)) (columns w)) (all_of (parted w xs) (differences xs)) passes).1 in
-      let some = not-true (all_of (alike_at w xs p) (columns w)) (all_has (parted w xs) (differences xs) p all m) in
+      let all = (and_parts (list_all (λ k. not (clash_at w xs k)) (columns w)) (list_all (parted w xs) (differences xs)) passes).1 in
+      let some = not-true (list_all (alike_at w xs p) (columns w)) (all_has (parted w xs) (differences xs) p all m) in
       let r = all_fails (alike_at w xs p) (columns w) some in
       let k = r.0 in
       (k, r.1, λ a. both_ways (alike_at w xs p k) r.2 ((alike_means w.readings (links_at w xs k) (marks_at w xs k) p.0 p.1).1 a))

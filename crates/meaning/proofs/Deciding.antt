@@ -1,7 +1,7 @@
 -- The columns decide.
 use Rattle.std.proofs.Common.{◌≡◌, true, false, not, ◌⊎◌, List, inl, inr}
+use Rattle.std.specs.List.{list_all}
 use Rattle.std.proofs.lemmas.Bool.{and_cases, cases_Bool, not-false}
-use Rattle.links.specs.Lists.{all_of}
 use Rattle.links.proofs.Lists.{all_fails, all_has}
 use Rattle.statement.specs.declared.Statement.{Statement}
 use Rattle.meaning.specs.Answers.{filled}
@@ -16,7 +16,7 @@ use Rattle.meaning.proofs.Sound.{no_clash, not_throughout}
 fails_why : (w : Setting) (xs : List Statement) → test w xs ≡ false → SomeClash w xs ⊎ AlikeThroughout w xs
 unfolding test clash_at parted alike_at
 fails_why w xs h =
-    elim (and_cases (all_of (λ k. not (clash_at w xs k)) (columns w)) (all_of (parted w xs) (differences xs)) h) [
+    elim (and_cases (list_all (λ k. not (clash_at w xs k)) (columns w)) (list_all (parted w xs) (differences xs)) h) [
       | inl e ↦
           let r = all_fails (λ k. not (clash_at w xs k)) (columns w) e in
           inl (record {
@@ -27,7 +27,7 @@ fails_why w xs h =
       | inr e ↦
           let r = all_fails (parted w xs) (differences xs) e in
           let p = r.0 in
-          let all = not-false (all_of (alike_at w xs p) (columns w)) r.2 in
+          let all = not-false (list_all (alike_at w xs p) (columns w)) r.2 in
           inr (record {
             tables = p;
             differ = r.1;

@@ -1,7 +1,8 @@
 -- What is there among gaps, two of a list, the first that passes, and parts of a list.
 use Rattle.std.proofs.Common.{◌≡◌, ℕ, zero, suc, Bool, true, false, cond, List, [], ◌∷◌, ◌++◌, map, Some, None, Option, sym, refl, ap, ◌∙◌, subst, inl, inr, arith}
+use Rattle.std.specs.List.{list_any}
 use Rattle.std.proofs.lemmas.Bool.{both_ways}
-use Rattle.links.specs.Lists.{Member, any_of, present}
+use Rattle.links.specs.Lists.{Member, present}
 use Rattle.links.proofs.Lists.{any_from, any_has, member_cases, member_left, member_right}
 use Rattle.meaning.specs.Answers.{first_that}
 use Rattle.meaning.specs.Theorems.{Within, omit}
@@ -34,14 +35,14 @@ module _ {X Y : Type 0} (f : X → Option Y) where
       go (Some u) m = inr m
 
 module _ {X : Type 0} (p : X → X → Bool) where
-  pub two_has : (xs : List X) → any_of (λ x. any_of (p x) xs) xs ≡ true → (x y : X) × Member x xs × Member y xs × (p x y ≡ true)
+  pub two_has : (xs : List X) → list_any (λ x. list_any (p x) xs) xs ≡ true → (x y : X) × Member x xs × Member y xs × (p x y ≡ true)
   two_has xs h =
-      let r = any_has (λ x. any_of (p x) xs) xs h in
+      let r = any_has (λ x. list_any (p x) xs) xs h in
       let q = any_has (p r.0) xs r.2 in
       (r.0, q.0, r.1, q.1, q.2)
 
-  pub two_from : (xs : List X) (x y : X) → Member x xs → Member y xs → p x y ≡ true → any_of (λ x. any_of (p x) xs) xs ≡ true
-  two_from xs x y m k h = any_from (λ x. any_of (p x) xs) xs x m (any_from (p x) xs y k h)
+  pub two_from : (xs : List X) (x y : X) → Member x xs → Member y xs → p x y ≡ true → list_any (λ x. list_any (p x) xs) xs ≡ true
+  two_from xs x y m k h = any_from (λ x. list_any (p x) xs) xs x m (any_from (p x) xs y k h)
 
 -- the first that passes is one that does, or none does
 abbrev pub Found : {X : Type 0} → (X → Bool) → List X → Option X → Type 0

@@ -1,8 +1,8 @@
 -- Clashes, and tables that are alike: what is computed is what is meant.
 use Rattle.std.proofs.Common.{◌≡◌, ℕ, Bool, true, not, ◌&&◌, ◌↔◌, List, inl, inr}
+use Rattle.std.specs.List.{list_any}
 use Rattle.std.proofs.lemmas.Bool.{and_from, and_parts, not_from_false, not-true, or_cases, or_left, or_right}
 use Rattle.links.specs.Chains.{joined}
-use Rattle.links.specs.Lists.{any_of}
 use Rattle.links.proofs.Reach.{joined_finds}
 use Rattle.arrangement.specs.Meaning.{Meaning, same}
 use Rattle.meaning.specs.Columns.{Clash, MarkedAlike, TablesAlike, alike, clash}
@@ -43,7 +43,7 @@ module _ (m : Meaning) (links marks : List (ℕ × ℕ)) where
     meeting p q = (chained a p.0 && chained b q.0) && same m p.1 q.1
 
     abbrev meet : Bool
-    meet = any_of (λ p. any_of (meeting p) marks) marks
+    meet = list_any (λ p. list_any (meeting p) marks) marks
 
     meet_has : meet ≡ true → MarkedAlike m links marks a b
     meet_has h =

@@ -1,8 +1,7 @@
 -- What is answered about a list of statements, by its columns. The theorems say what the answers mean.
 use Rattle.std.specs.Prelude.{ℕ, zero, suc, ◌+◌, ◌-◌, ◌*◌, ◌/◌, ◌%◌, ◌^◌, Bool, cond, not, ◌&&◌, List, [], ◌∷◌, ◌++◌, map, length, take, drop, Some, None, filter, Option, ◌==◌, nat_eq, nat_lt}
-use Rattle.std.specs.List.{range_with_len}
+use Rattle.std.specs.List.{list_any, range_with_len}
 use Rattle.links.specs.Chains.{fewest, joined, lowest_joined}
-use Rattle.links.specs.Lists.{any_of}
 use Rattle.arrangement.specs.Meaning.{Meaning, lowest}
 use Rattle.statement.specs.declared.Reading.{Reading}
 use Rattle.statement.specs.declared.Statement.{Statement}
@@ -39,7 +38,7 @@ column_of w i = at (lowest w.slots i)
 
 -- does the table bear one of the marks?
 abbrev pub bears : List (ℕ × ℕ) → ℕ → Bool
-bears marks t = any_of (λ p. nat_eq p.0 t) marks
+bears marks t = list_any (λ p. nat_eq p.0 t) marks
 
 -- the fewest links from the table to a marked one
 unfoldable pub distance : Setting → List Statement → Column → ℕ → Option ℕ

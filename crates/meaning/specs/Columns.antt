@@ -1,7 +1,8 @@
 -- The columns of tables, and the test that they give. A column is a slot class, or all the slots that no name has.
 use Rattle.std.specs.Prelude.{◌≡◌, ℕ, zero, suc, Bool, true, false, cond, not, ◌&&◌, ◌||◌, ◌⊎◌, List, [], ◌∷◌, map, Some, None, Option, ◌==◌}
+use Rattle.std.specs.List.{list_all, list_any}
 use Rattle.links.specs.Chains.{Joins, joined}
-use Rattle.links.specs.Lists.{Member, all_of, any_of, present}
+use Rattle.links.specs.Lists.{Member, present}
 use Rattle.arrangement.specs.Meaning.{Meaning, lowest, same}
 use Rattle.statement.specs.declared.Statement.{Statement}
 use Rattle.statement.specs.declared.Statement.TheVariants.{W, R, E, D}
@@ -100,12 +101,12 @@ pub record AlikeThroughout (w : Setting) (xs : List Statement) : Type 0 where
 -- The same, computed.
 
 unfoldable pub clash : Meaning → List (ℕ × ℕ) → List (ℕ × ℕ) → Bool
-clash m links marks = any_of (λ p. any_of (λ q. joined links p.0 q.0 && not (same m p.1 q.1)) marks) marks
+clash m links marks = list_any (λ p. list_any (λ q. joined links p.0 q.0 && not (same m p.1 q.1)) marks) marks
 
 unfoldable pub alike : Meaning → List (ℕ × ℕ) → List (ℕ × ℕ) → ℕ → ℕ → Bool
 alike m links marks a b =
     joined links a b
-    || any_of (λ p. any_of (λ q. (joined links a p.0 && joined links b q.0) && same m p.1 q.1) marks) marks
+    || list_any (λ p. list_any (λ q. (joined links a p.0 && joined links b q.0) && same m p.1 q.1) marks) marks
 
 unfoldable pub clash_at : Setting → List Statement → Column → Bool
 clash_at w xs k = clash w.readings (links_at w xs k) (marks_at w xs k)
@@ -115,8 +116,8 @@ alike_at w xs tables k = alike w.readings (links_at w xs k) (marks_at w xs k) ta
 
 -- are two tables not alike at some column?
 unfoldable pub parted : Setting → List Statement → ℕ × ℕ → Bool
-parted w xs tables = not (all_of (alike_at w xs tables) (columns w))
+parted w xs tables = not (list_all (alike_at w xs tables) (columns w))
 
 -- no column clashes, and tables that are to differ are not alike at some column
 unfoldable pub test : Setting → List Statement → Bool
-test w xs = all_of (λ k. not (clash_at w xs k)) (columns w) && all_of (parted w xs) (differences xs)
+test w xs = list_all (λ k. not (clash_at w xs k)) (columns w) && list_all (parted w xs) (differences xs)

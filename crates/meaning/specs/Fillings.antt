@@ -1,7 +1,8 @@
 -- What statements mean. A filling says what every table holds at every slot. Statements can all be true exactly when one
 -- filling fits them all.
 use Rattle.std.specs.Prelude.{◌≡◌, ℕ, ◌<◌, Bool, true, ◌&&◌, ◌↔◌, List, [], ◌∷◌, Some, None, Option, nat_lt}
-use Rattle.links.specs.Lists.{Member, all_of}
+use Rattle.std.specs.List.{list_all}
+use Rattle.links.specs.Lists.{Member}
 use Rattle.arrangement.specs.Meaning.{Meaning, Lawful, same}
 use Rattle.statement.specs.declared.Statement.{Statement}
 use Rattle.statement.specs.declared.Statement.TheVariants.{W, R, E, D}
@@ -79,7 +80,7 @@ is_named w x = below w.slots.size (slot_of x) && below w.readings.size (reading_
 
 -- and are its tables below that count?
 abbrev pub is_within : ℕ → Setting → Statement → Bool
-is_within tables w x = all_of (λ t. nat_lt t tables) (tables_of x) && is_named w x
+is_within tables w x = list_all (λ t. nat_lt t tables) (tables_of x) && is_named w x
 
 abbrev pub Named : Setting → List Statement → Type 0
 Named w xs = (x : Statement) → Member x xs → is_named w x ≡ true

@@ -3,9 +3,8 @@ use Rattle.std.specs.Prelude.{◌≡◌, ℕ, zero, suc, Bool, true, ◌&&◌, L
 use Rattle.std.proofs.Common.{sym}
 use Rattle.std.proofs.lemmas.List.{get_or_past, get_or-take, length-take-le, map_more, take_all, take_more_set}
 use Rattle.std.proofs.lemmas.Bool.{and_from, and_parts, cond_both, ltb-true}
-use Rattle.std.specs.List.{AllByRecursion}
+use Rattle.std.specs.List.{AllByRecursion, list_all}
 use Rattle.std.specs.Option.{option_flatten}
-use Rattle.links.specs.Lists.{all_of}
 use Rattle.meaning.specs.declared.column.Column.{Column}
 use Rattle.meaning.specs.Columns.{here, link_at}
 use Rattle.meaning.specs.Fillings.{Setting, is_named, is_within}
@@ -24,10 +23,10 @@ module _ (n : ℕ) where
   inside_means (Some p) h =
       let both = and_parts (nat_lt p.0 n) (nat_lt p.1 n) h in (ltb-true p.0 n both.0, ltb-true p.1 n both.1)
 
-  pub all_inside : (es : List (Option (ℕ × ℕ))) → all_of (is_inside n) es ≡ true → AllByRecursion (Inside n) es
+  pub all_inside : (es : List (Option (ℕ × ℕ))) → list_all (is_inside n) es ≡ true → AllByRecursion (Inside n) es
   all_inside [] h = tt
   all_inside (e ∷ es) h =
-      let each = and_parts (is_inside n e) (all_of (is_inside n) es) h in (inside_means e each.0, all_inside es each.1)
+      let each = and_parts (is_inside n e) (list_all (is_inside n) es) h in (inside_means e each.0, all_inside es each.1)
 
 -- Statements that name tables below a count link tables below it.
 module _ (n : ℕ) (w : Setting) (k : Column) where
@@ -44,13 +43,13 @@ module _ (n : ℕ) (w : Setting) (k : Column) where
   link_inside (E a b) h = two_inside a.0 b.0 (is_named w (E a b)) h
   link_inside (D a b) h = refl
 
-  map_inside : (xs : List Statement) → all_of (is_within n w) xs ≡ true → all_of (is_inside n) (map (link_at w k) xs) ≡ true
+  map_inside : (xs : List Statement) → list_all (is_within n w) xs ≡ true → list_all (is_inside n) (map (link_at w k) xs) ≡ true
   map_inside [] h = refl
   map_inside (x ∷ xs) h =
-      let each = and_parts (is_within n w x) (all_of (is_within n w) xs) h in
-      and_from (is_inside n (link_at w k x)) (all_of (is_inside n) (map (link_at w k) xs)) (link_inside x each.0) (map_inside xs each.1)
+      let each = and_parts (is_within n w x) (list_all (is_within n w) xs) h in
+      and_from (is_inside n (link_at w k x)) (list_all (is_inside n) (map (link_at w k) xs)) (link_inside x each.0) (map_inside xs each.1)
 
-pub links_inside : (s : Standing) (k : Column) → all_of (is_inside s.tables) (links_in s k) ≡ true
+pub links_inside : (s : Standing) (k : Column) → list_all (is_inside s.tables) (links_in s k) ≡ true
 links_inside s k = map_inside s.tables (setting_in s) k (list_in s) (within s)
 
 -- what is looked up of links with gaps

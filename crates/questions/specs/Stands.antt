@@ -1,8 +1,9 @@
 -- What a table of standing statements keeps, as the sight of a column asks for it.
 use Rattle.std.specs.Prelude.{◌≡◌, ℕ, ◌<◌, ◌≤◌, true, false, not, List, nat_lt}
+use Rattle.std.specs.List.{list_all}
 use Rattle.std.proofs.Common.{subst, ◌∙◌, arith}
 use Rattle.std.proofs.lemmas.Bool.{and_from, and_parts, lt-ltb, ltb-true, not-true}
-use Rattle.links.specs.Lists.{Member, all_of}
+use Rattle.links.specs.Lists.{Member}
 use Rattle.links.proofs.Lists.{all_from, all_has}
 use Rattle.arrangement.specs.Kept.{lawful}
 use Rattle.column.specs.Naming.{setting_of}
@@ -21,18 +22,18 @@ use Rattle.questions.specs.Asked.{list_in, setting_in}
 -- names below a count are below a higher one
 within_more : (low high : ℕ) → low ≤ high → (w : Setting) (x : Statement) → is_within low w x ≡ true → is_within high w x ≡ true
 within_more low high le w x h =
-    let parts = and_parts (all_of (λ t. nat_lt t low) (tables_of x)) (is_named w x) h in
-    and_from (all_of (λ t. nat_lt t high) (tables_of x)) (is_named w x)
+    let parts = and_parts (list_all (λ t. nat_lt t low) (tables_of x)) (is_named w x) h in
+    and_from (list_all (λ t. nat_lt t high) (tables_of x)) (is_named w x)
     (all_from (λ t. nat_lt t high) (tables_of x)
     (λ t m. lt-ltb t high (omega (arith, ltb-true t low (all_has (λ t. nat_lt t low) (tables_of x) t parts.0 m)))))
     parts.1
 
 module _ (s : Standing) where
-  pub within : all_of (is_within s.tables (setting_in s)) (list_in s) ≡ true
-  within = (and_parts (all_of (is_within s.tables (setting_in s)) (list_in s)) (test (setting_in s) (list_in s)) s.stands).0
+  pub within : list_all (is_within s.tables (setting_in s)) (list_in s) ≡ true
+  within = (and_parts (list_all (is_within s.tables (setting_in s)) (list_in s)) (test (setting_in s) (list_in s)) s.stands).0
 
   pub passes : test (setting_in s) (list_in s) ≡ true
-  passes = (and_parts (all_of (is_within s.tables (setting_in s)) (list_in s)) (test (setting_in s) (list_in s)) s.stands).1
+  passes = (and_parts (list_all (is_within s.tables (setting_in s)) (list_in s)) (test (setting_in s) (list_in s)) s.stands).1
 
   pub readable : Readable (setting_in s) (list_in s)
   readable x m = within_more s.tables 128 s.few (setting_in s) x (all_has (is_within s.tables (setting_in s)) (list_in s) x within m)
@@ -48,7 +49,7 @@ module _ (s : Standing) where
       let xs = list_in s in
       not-true (clash_at w xs k)
       (all_has (λ k. not (clash_at w xs k)) (columns w) k
-      (and_parts (all_of (λ k. not (clash_at w xs k)) (columns w)) (all_of (parted w xs) (differences xs)) passes).0 m)
+      (and_parts (list_all (λ k. not (clash_at w xs k)) (columns w)) (list_all (parted w xs) (differences xs)) passes).0 m)
 
 -- What a sight of a column tells of the standing statements.
 module _ (s : Standing) (k : Column) (r : Sight) where

@@ -1,8 +1,8 @@
 //! The links of a column, gathered once for a search.
 
 ghost use Rattle.std.specs.Prelude.{◌≡◌, ◌≤◌, true};
+ghost use Rattle.std.specs.List.{list_all};
 ghost use Rattle.bounded.specs.Items.{items_of};
-ghost use Rattle.links.specs.Lists.{all_of};
 ghost use Rattle.questions.specs.Links.{is_inside};
 
 use bounded::Bounded;
@@ -14,5 +14,5 @@ pub(crate) struct Gathered {
     pub(crate) tables: u8,
     pub(crate) links: Bounded<Option<(u8, u8)>, 512>,
     ghost few: { tables ≤ 128 },
-    ghost inside: { all_of (is_inside tables) (items_of links) ≡ true },
+    ghost inside: { list_all (is_inside tables) (items_of links) ≡ true },
 }

@@ -1,8 +1,7 @@
 -- What a table of standing statements keeps, when it grows and when it shrinks.
 use Rattle.std.proofs.Common.{◌≡◌, ℕ, zero, suc, ◌≤◌, Bool, true, not, ◌&&◌, ltb, List, [], ◌∷◌, ◌++◌, length, sym, refl, ap, ◌∙◌, subst, inl, inr, arith}
-use Rattle.std.specs.List.{remove}
+use Rattle.std.specs.List.{list_all, remove}
 use Rattle.std.proofs.lemmas.Bool.{and_from, and_parts, lt-ltb, ltb-true}
-use Rattle.links.specs.Lists.{all_of}
 use Rattle.links.proofs.Lists.{all_from, all_has, member_cases}
 use Rattle.arrangement.specs.Kept.{lawful}
 use Rattle.statement.specs.declared.Statement.{Statement}
@@ -19,25 +18,25 @@ use Rattle.standing.specs.Kept.{is_standing}
 
 -- Names below the counts.
 
-tables_more : (t n : ℕ) → t ≤ n → (ts : List ℕ) → all_of (λ k. ltb k t) ts ≡ true → all_of (λ k. ltb k n) ts ≡ true
+tables_more : (t n : ℕ) → t ≤ n → (ts : List ℕ) → list_all (λ k. ltb k t) ts ≡ true → list_all (λ k. ltb k n) ts ≡ true
 tables_more t n l ts h =
     all_from (λ k. ltb k n) ts (λ k m. lt-ltb k n (omega (arith, ltb-true k t (all_has (λ k. ltb k t) ts k h m))))
 
 within_more : (t n : ℕ) (w : Setting) → t ≤ n → (x : Statement) → is_within t w x ≡ true → is_within n w x ≡ true
 within_more t n w l x h =
-    let p = and_parts (all_of (λ k. ltb k t) (tables_of x)) (is_named w x) h in
-    and_from (all_of (λ k. ltb k n) (tables_of x)) (is_named w x) (tables_more t n l (tables_of x) p.0) p.1
+    let p = and_parts (list_all (λ k. ltb k t) (tables_of x)) (is_named w x) h in
+    and_from (list_all (λ k. ltb k n) (tables_of x)) (is_named w x) (tables_more t n l (tables_of x) p.0) p.1
 
-within_named : (t : ℕ) (w : Setting) (xs : List Statement) → all_of (is_within t w) xs ≡ true → Named w xs
+within_named : (t : ℕ) (w : Setting) (xs : List Statement) → list_all (is_within t w) xs ≡ true → Named w xs
 within_named t w xs h x m =
-    (and_parts (all_of (λ k. ltb k t) (tables_of x)) (is_named w x) (all_has (is_within t w) xs x h m)).1
+    (and_parts (list_all (λ k. ltb k t) (tables_of x)) (is_named w x) (all_has (is_within t w) xs x h m)).1
 
 -- Nothing, and parts.
 
 nothing_fits : (w : Setting) → test w [] ≡ true
 unfolding test clash_at clash links_at marks_at differences
 nothing_fits w =
-    and_from (all_of (λ k. not (clash_at w [] k)) (columns w)) (all_of (parted w []) (differences []))
+    and_from (list_all (λ k. not (clash_at w [] k)) (columns w)) (list_all (parted w []) (differences []))
     (all_from (λ k. not (clash_at w [] k)) (columns w) (λ k m. refl)) refl
 
 orderly : (n : Naming) → Orderly (setting_of n)
@@ -68,7 +67,7 @@ module _ (t : ℕ) (naming : Naming) where
   w = setting_of naming
 
   abbrev within : List Statement → Bool
-  within xs = all_of (is_within t w) xs
+  within xs = list_all (is_within t w) xs
 
   pub nothing_stands : is_standing t naming [] ≡ true
   nothing_stands = nothing_fits w
@@ -76,7 +75,7 @@ module _ (t : ℕ) (naming : Naming) where
   pub more_stands : (n : ℕ) → t ≤ n → (xs : List Statement) → is_standing t naming xs ≡ true → is_standing n naming xs ≡ true
   more_stands n l xs h =
       let p = and_parts (within xs) (test w xs) h in
-      and_from (all_of (is_within n w) xs) (test w xs)
+      and_from (list_all (is_within n w) xs) (test w xs)
       (all_from (is_within n w) xs (λ x m. within_more t n w l x (all_has (is_within t w) xs x p.0 m))) p.1
 
   part_stands : (xs ys : List Statement) → Within xs ys → is_standing t naming ys ≡ true → is_standing t naming xs ≡ true

@@ -14,10 +14,10 @@ returns-then-list-gt-MOST c =
     let w = setting_of c.args.naming.now in
     let list = c.args.list.now in
     let none : (nat_le (length list) 512 && is_readable w (c.args.offered ∷ list)) ≡ false =
-        elim c.then-list-gt-MOST.branch [
-          | then-list-gt-MOST-via-then-list-gt-MOST b ↦ and_left _ _ (lt-leb (length list) 512 b.if-list-gt-MOST.true)
-          | then-list-gt-MOST-via-else-list-gt-MOST+then-not-is_readable b ↦ and_right _ _ (sym b.is_readable.ensures ∙ b.if-not-is_readable.true)
-        ] in
+    elim c.then-list-gt-MOST.branch [
+      | then-list-gt-MOST-via-then-list-gt-MOST b ↦ and_left _ _ (lt-leb (length list) 512 b.if-list-gt-MOST.true)
+      | then-list-gt-MOST-via-else-list-gt-MOST+then-not-is_readable b ↦ and_right _ _ (sym b.is_readable.ensures ∙ b.if-not-is_readable.true)
+    ] in
     c.all.ensures ∙ ap citation (sym (cond-false _ _ _ none))
 
 pub invariant_of-trial : goal.invariant_of-trial
