@@ -37,6 +37,7 @@ fn classes_of<A: Arrangement>(a: &A) -> Classes
 
 impl<A: Arrangement> Classed<A> {
     /// Asks for the count and which names are the same, and keeps what that gives.
+    // No `From`: a conversion would hide that every two names are asked about.
     pub fn of(inner: A) -> Classed<A>
         ensures inner { result.inner ≡ inner }
         ensures size { (classes_meaning result.classes).size ≡ (A.Arrangement.meaning inner).size }

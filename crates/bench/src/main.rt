@@ -39,6 +39,7 @@ fn both_ends(k: u32) -> (u8, u8) {
 }
 
 /// Asks so often, of the names that are picked, and adds up the answers.
+// Each program has its own: a public one would need a `requires` for the closure.
 fn sum_of<Q: Fn(u8, u8) -> u8, P: Fn(u32) -> (u8, u8)>(question: &Q, pick: P, times: u32) -> u64
     requires question { Q.IsAlwaysCallable question.now }
     requires pick { P.IsAlwaysCallable pick }

@@ -67,6 +67,7 @@ fn stand(heap: Global, naming: &Naming, xs: &[Statement]) -> Result<Standing, Al
 }
 
 /// Asks so often, and adds up the answers.
+// Each program has its own: a public one would need a `requires` for the closure.
 fn sum_of<F: Fn(u32) -> u32>(times: u32, ask: F) -> u32
     requires { F.IsAlwaysCallable ask }
 {

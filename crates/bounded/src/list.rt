@@ -12,6 +12,7 @@ pub struct Bounded<T, const N: usize> {
     ghost long: { length slots ≡ N },
 }
 
+// By hand: neither is derived for a struct with both a ghost field and a type parameter.
 impl<T: Copy, const N: usize> Copy for Bounded<T, N> {}
 
 impl<T: Copy, const N: usize> Clone for Bounded<T, N> {

@@ -72,6 +72,7 @@ impl Sight {
     }
 }
 
+// A view has no list of its own, so that its statements can be read is a premise of each clause.
 impl View<'_> {
     /// Joins the tables that the statement links at the column, if it links two.
     fn add_link(&self, groups: &mut Groups, x: Statement)

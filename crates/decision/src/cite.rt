@@ -41,6 +41,7 @@ impl Trial<'_> {
         ensures within { result < length self.now.rest.now }
         ensures turns { Turns (fits_with self.now) self.now.kept.now self.now.rest.now result }
     {
+        // By hand: the library's `partition_point` tests the items of a slice, and not its places.
         let mut low = 0;
         let mut high = self.rest.len();
         while high - low > 1 {

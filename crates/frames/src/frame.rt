@@ -45,7 +45,7 @@ pub enum Answer {
     Known(Reading, u8),
     /// At how many slots the tables can differ.
     Differ(Apart),
-    /// The filling, table by table.
+    /// The filling, table by table. An array, as above.
     Numbers([u16; 4]),
 }
 

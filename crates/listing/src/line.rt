@@ -32,6 +32,7 @@ impl Fault {
     pub fn number(&self) -> u8
         ensures { result ≡ number_of self.now }
     {
+        // By cases, since a variant that holds a refusal cannot be cast to its number.
         match self {
             Fault::LogTooLong => 37,
             Fault::Reader(refusal) => refusal.number(),

@@ -1,6 +1,7 @@
 //! At how many slots two tables can differ.
 
 /// At how many slots two tables can differ, in fillings that fit.
+// No Option: who asks for it is answered none where a table is no name, and no limit is an answer.
 #[derive(Clone, Copy, PartialEq, Eq, Debug)]
 pub enum Apart {
     /// At as many as one likes.
