@@ -1,5 +1,5 @@
 -- A list of numbers, of which equal ones mean the same, makes a lawful arrangement.
-use Rattle.std.specs.Prelude.{◌≡◌, ℕ, ◌≤◌, Bool, false, List, length, Some, None, Option, nat_eq, slice_get, slice_index, refl}
+use Rattle.std.specs.Prelude.{◌≡◌, ℕ, ◌≤◌, false, List, length, Some, None, Option, nat_eq, slice_get, slice_index, refl}
 use Rattle.std.proofs.Common.{◌∙◌, ap, ap₂, inl, inr}
 use Rattle.std.proofs.lemmas.Bool.{cases_lt}
 use Rattle.std.proofs.lemmas.Option.{slice_get-get_or, slice_get_past}

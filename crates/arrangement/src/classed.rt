@@ -30,6 +30,7 @@ fn classes_of<A: Arrangement>(a: &A) -> Classes
 {
     let mut lowest = Bounded::new(0);
     for i in 0..a.count() {
+        // There is room, since an arrangement has at most 64 names.
         let _ = lowest.push(lowest_in(a, i));
     }
     Classes { lowest }

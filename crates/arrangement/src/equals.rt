@@ -4,7 +4,7 @@ ghost use Rattle.std.specs.Prelude.{◌≡◌};
 ghost use Rattle.arrangement.specs.Numbers.{both_equal};
 
 /// Are both there, and equal?
-pub(crate) fn are_equal<T: Copy + Eq>(x: Option<T>, y: Option<T>) -> bool
+pub fn are_equal<T: Copy + Eq>(x: Option<T>, y: Option<T>) -> bool
     ensures { result ≡ both_equal T.PartialEq.eq x y }
 {
     match (x, y) {

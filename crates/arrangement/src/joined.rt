@@ -53,10 +53,8 @@ impl<A: Arrangement> Joined<A> {
     fn across(&self, i: u8, j: u8) -> bool
         ensures { result ≡ across (A.Arrangement.meaning self.now.inner) self.now.pair i j }
     {
-        match self.pair {
-            None => false,
-            Some((p, q)) => self.meets(p, q, i, j) || self.meets(q, p, i, j),
-        }
+        self.pair
+            .is_some_and(|(p, q)| self.meets(p, q, i, j) || self.meets(q, p, i, j))
     }
 }
 

@@ -17,6 +17,7 @@ mod stored;
 pub use assigned::Assigned;
 pub use classed::Classed;
 pub use classes::Classes;
+pub use equals::are_equal;
 pub use joined::Joined;
 pub use refusal::Refusal;
 

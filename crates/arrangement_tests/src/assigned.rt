@@ -6,11 +6,7 @@ use std::test::Fail;
 
 /// So many numbers, which come again after every seventh.
 fn numbers(heap: Global, many: u8) -> Result<Vec<u32>, AllocError> {
-    let mut list = Vec::new(heap);
-    for k in 0..many {
-        list.push(u32::from(k % 7))?;
-    }
-    Ok(list)
+    (0..many).map(|k| u32::from(k % 7)).collect(heap)
 }
 
 #[test]

@@ -3,6 +3,7 @@
 use decision::Citation;
 
 /// How many tests halving takes to come down to place i of so many.
+// By hand: it counts the steps of a search over places, which is in no slice.
 fn halvings(count: usize, i: usize) -> usize {
     let mut low = 0;
     let mut high = count;

@@ -1,7 +1,5 @@
 //! The lists of statements that are measured.
 
-use arrangement::Classes;
-use column::Naming;
 use statement::{Reading, Slot, Statement, Table};
 use std::alloc::{AllocError, Global};
 

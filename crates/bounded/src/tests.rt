@@ -8,10 +8,13 @@ fn items_stay_in_order(rt: HostRuntime) {
     assert_eq!(rt; list.as_slice().len(), 0);
     assert_eq!(rt; list.push(5), Ok(()));
     assert_eq!(rt; list.push(4), Ok(()));
-    assert_eq!(rt; list.as_slice().first(), Some(&5));
-    assert_eq!(rt; list.as_slice().last(), Some(&4));
+    assert_eq!(rt; list.len(), 2);
+    assert_eq!(rt; list.get(0), Some(5));
+    assert_eq!(rt; list.get(1), Some(4));
+    assert_eq!(rt; list.get(2), None);
     list.clear();
-    assert_eq!(rt; list.as_slice().len(), 0);
+    assert_eq!(rt; list.len(), 0);
+    assert_eq!(rt; list.get(0), None);
 }
 
 #[test]

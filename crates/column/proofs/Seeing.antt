@@ -1,5 +1,5 @@
 -- What a sight tells of the column.
-use Rattle.std.proofs.Common.{◌≡◌, ℕ, ◌<◌, Bool, true, false, cond, ◌||◌, eqb, ltb, ◌⊎◌, List, [], ◌∷◌, ◌++◌, Some, None, Option, sym, refl, ap, ap₂, ◌∙◌, subst, inl, inr}
+use Rattle.std.proofs.Common.{nat_eq, ◌≡◌, ℕ, ◌<◌, Bool, true, false, cond, ◌||◌, eqb, ltb, ◌⊎◌, List, [], ◌∷◌, ◌++◌, Some, None, Option, sym, refl, ap, ap₂, ◌∙◌, subst, inl, inr}
 use Rattle.std.specs.List.{list_all}
 use Rattle.std.proofs.lemmas.Bool.{and_parts, both_ways, cases_Bool, eq-eqb, eqb-true, false≢true, ltb-true, or_cases, or_left, or_right}
 use Rattle.links.specs.Chains.{joined, lowest_joined}
@@ -22,7 +22,8 @@ use Rattle.meaning.proofs.Lists.{none_some, some_inj}
 use Rattle.meaning.proofs.Sound.{mark_reading, reading_named}
 use Rattle.meaning.proofs.Marks.{alike_means, clash_from, clash_has}
 use Rattle.column.specs.declared.sight.Sight.{Sight}
-use Rattle.column.specs.Sights.{Readable, Seen, SeenBy, both_are, given, marked_clash, marked_marks, reading_of, seem_alike}
+use Rattle.arrangement.specs.Numbers.{both_equal}
+use Rattle.column.specs.Sights.{Readable, Seen, SeenBy, given, marked_clash, marked_marks, reading_of, seem_alike}
 use Rattle.column.proofs.Noting.{mark_is, root_is, seen_more}
 
 module _ (m : Meaning) (law : Lawful m) (L M : List (ℕ × ℕ)) (s : Sight) (seen : Seen m L M s) where
@@ -43,7 +44,7 @@ module _ (m : Meaning) (law : Lawful m) (L M : List (ℕ × ℕ)) (s : Sight) (s
     one_group = eqb (root_of s.groups.root a) (root_of s.groups.root b)
 
     abbrev one_mark : Bool
-    one_mark = both_are (reading_of s a) (reading_of s b)
+    one_mark = both_equal nat_eq (reading_of s a) (reading_of s b)
 
     marks_agree : (p q : ℕ × ℕ) → Member p M → Member q M → joined L p.0 q.0 ≡ true → same m p.1 q.1 ≡ true
     marks_agree p q k l j =
@@ -79,7 +80,7 @@ module _ (m : Meaning) (law : Lawful m) (L M : List (ℕ × ℕ)) (s : Sight) (s
         let x = reading_by a la r.p r.marked_p ((joined_finds L a r.p.0).1 r.chain_a) in
         let y = reading_by b lb r.q r.marked_q ((joined_finds L b r.q.0).1 r.chain_b) in
         or_right one_group one_mark
-        (ap (λ o. both_are o (reading_of s b)) x ∙ ap (both_are (Some (lowest m r.p.1))) y
+        (ap (λ o. both_equal nat_eq o (reading_of s b)) x ∙ ap (both_equal nat_eq (Some (lowest m r.p.1))) y
         ∙ eq-eqb (lowest m r.p.1) (lowest m r.q.1) (lowest_same m law r.p.1 r.q.1 r.alike))
 
     seem_has : seem_alike s a b ≡ true → TablesAlike m L M a b
@@ -88,11 +89,11 @@ module _ (m : Meaning) (law : Lawful m) (L M : List (ℕ × ℕ)) (s : Sight) (s
           | inl e ↦
               inl ((joined_finds L a b).0
               (joined_back L a b (sym (lowest_is a la) ∙ eqb-true (root_of s.groups.root a) (root_of s.groups.root b) e ∙ lowest_is b lb)))
-          | inr e ↦ marked (known_cases m L M a) (known_cases m L M b) (sym (ap₂ both_are (reading_is a la) (reading_is b lb)) ∙ e)
+          | inr e ↦ marked (known_cases m L M a) (known_cases m L M b) (sym (ap₂ (both_equal nat_eq) (reading_is a la) (reading_is b lb)) ∙ e)
         ]
       where
         marked : Marked m L M a ⊎ Unmarked m L M a → Marked m L M b ⊎ Unmarked m L M b
-            → both_are (known_by m L M a) (known_by m L M b) ≡ true → TablesAlike m L M a b
+            → both_equal nat_eq (known_by m L M a) (known_by m L M b) ≡ true → TablesAlike m L M a b
         marked (inl p) (inl q) e =
             inr (record {
               p = p.mark;
@@ -102,10 +103,10 @@ module _ (m : Meaning) (law : Lawful m) (L M : List (ℕ × ℕ)) (s : Sight) (s
               chain_a = (joined_finds L a p.mark.0).0 p.chain;
               chain_b = (joined_finds L b q.mark.0).0 q.chain;
               alike = lowest_back m law p.mark.1 q.mark.1 (seen.named p.mark p.among).1 (seen.named q.mark q.among).1
-                  (eqb-true (lowest m p.mark.1) (lowest m q.mark.1) (sym (ap₂ both_are p.is q.is) ∙ e));
+                  (eqb-true (lowest m p.mark.1) (lowest m q.mark.1) (sym (ap₂ (both_equal nat_eq) p.is q.is) ∙ e));
             })
-        marked (inr p) q e = absurd (false≢true (sym (ap (λ o. both_are o (known_by m L M b)) p.is) ∙ e))
-        marked (inl p) (inr q) e = absurd (false≢true (sym (ap₂ both_are p.is q.is) ∙ e))
+        marked (inr p) q e = absurd (false≢true (sym (ap (λ o. both_equal nat_eq o (known_by m L M b)) p.is) ∙ e))
+        marked (inl p) (inr q) e = absurd (false≢true (sym (ap₂ (both_equal nat_eq) p.is q.is) ∙ e))
 
     pub alike_is : seem_alike s a b ≡ alike m L M a b
     alike_is =

@@ -1,11 +1,12 @@
 -- What a column shows: groups of tables, the reading of each group, and whether readings clash.
 use Rattle.std.specs.Borrow.{Bor}
 use Rattle.std.specs.List.{flat_map, list_all}
-use Rattle.std.specs.Prelude.{◌≡◌, ℕ, ◌<◌, Bool, true, false, not, ◌||◌, ◌↔◌, List, ◌∷◌, ◌++◌, Some, None, Option, ◌==◌, slice_index_or, slice_set}
+use Rattle.std.specs.Prelude.{◌≡◌, ℕ, ◌<◌, Bool, true, false, not, ◌||◌, ◌↔◌, List, ◌∷◌, ◌++◌, Some, None, Option, ◌==◌, nat_eq, slice_index_or, slice_set}
 use Rattle.links.specs.Chains.{lowest_joined}
 use Rattle.links.specs.Groups.{Roots, root_of}
 use Rattle.links.specs.Lists.{Member}
 use Rattle.arrangement.specs.Meaning.{Meaning}
+use Rattle.arrangement.specs.Numbers.{both_equal}
 use Rattle.statement.specs.declared.Statement.{Statement}
 use Rattle.meaning.specs.declared.column.Column.{Column}
 use Rattle.meaning.specs.Answers.{known_by}
@@ -20,16 +21,10 @@ mark_of root marks t = slice_index_or marks (root_of root t) None
 abbrev pub reading_of : Sight → ℕ → Option ℕ
 reading_of s t = mark_of s.groups.root s.marks t
 
--- are there two readings, and are they the same?
-abbrev pub both_are : Option ℕ → Option ℕ → Bool
-both_are None o = false
-both_are (Some v) None = false
-both_are (Some v) (Some u) = v == u
-
 -- are the tables of one group, or of groups with the same reading?
 abbrev pub seem_alike : Sight → ℕ → ℕ → Bool
 seem_alike s a b =
-    (root_of s.groups.root a == root_of s.groups.root b) || both_are (reading_of s a) (reading_of s b)
+    (root_of s.groups.root a == root_of s.groups.root b) || both_equal nat_eq (reading_of s a) (reading_of s b)
 
 -- the first reading of a group stays
 abbrev pub first_mark : Option ℕ → ℕ → Option ℕ

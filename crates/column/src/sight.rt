@@ -6,7 +6,7 @@ use links::groups::Groups;
 
 /// The groups of tables that are joined at a column, the first reading that each group is marked with, by its lowest name,
 /// and whether some group is marked with another one too.
-// `clash` stays beside: what stands does not clash, and a Result would have a branch there that is never taken.
+// `clash` is beside, and no Result: `questions` looks only at what stands, which never clashes, and would have an arm never taken.
 #[derive(Clone, Copy)]
 pub struct Sight {
     pub(crate) groups: Groups,

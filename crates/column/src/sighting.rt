@@ -11,6 +11,7 @@ ghost use Rattle.meaning.specs.Fillings.{is_within};
 
 use crate::sight::Sight;
 use crate::view::View;
+use arrangement::are_equal;
 use links::groups::{Groups, NAMES};
 use statement::Statement;
 
@@ -65,10 +66,7 @@ impl Sight {
     pub fn are_alike(&self, a: u8, b: u8) -> bool
         ensures { result ≡ seem_alike self.now a b }
     {
-        self.groups.are_joined(a, b)
-            || self
-                .reading(a)
-                .is_some_and(|reading| self.reading(b) == Some(reading))
+        self.groups.are_joined(a, b) || are_equal(self.reading(a), self.reading(b))
     }
 }
 

@@ -38,7 +38,7 @@ impl Sights<'_> {
     }
 
     /// So for all of a list, whose sights they are: does it fit?
-    pub(crate) fn bear_out(&self, trial: &Trial) -> bool
+    pub(crate) fn fits(&self, trial: &Trial) -> bool
         requires { AllSeen (setting trial.now) (tried trial.now) self.now }
         ensures { result ≡ test (setting trial.now) (tried trial.now) }
     {

@@ -17,6 +17,8 @@ use statement::Statement;
 /// How many positions a citation has room for.
 const MOST: usize = 512;
 
+// That the list does not fit is a premise of the three that look for the statements to blame: a type for it would have a name
+// more and no clause less.
 impl Trial<'_> {
     /// Does the list fit without what stands before that place of the rest?
     fn fits_from(&self, place: usize) -> bool
@@ -56,7 +58,7 @@ impl Trial<'_> {
     }
 
     /// The place in the rest of the next statement to blame; none where those kept do not fit by themselves.
-    fn next(&self) -> Option<usize>
+    fn next_to_blame(&self) -> Option<usize>
         requires { fits_with self.now (self.now.kept.now ++ self.now.rest.now) ≡ false }
         ensures within { IfSome result (λ i. i < length self.now.rest.now) }
         ensures turns { Found (fits_with self.now) self.now.kept.now self.now.rest.now result }
@@ -82,8 +84,9 @@ impl Trial<'_> {
             kept: kept.as_slice(),
             rest: &self.rest[p..],
         })
-        .next()
+        .next_to_blame()
         {
+            // There is room: no more are kept than the list has.
             let _ = kept.push(self.rest[p + i]);
             p += i + 1;
             let _ = positions.push(p as u16);
@@ -111,7 +114,7 @@ fn all(count: usize) -> Citation
     ensures { result ≡ citation (range_with_len 1 count) }
 {
     let mut positions: Bounded<u16, MOST> = Bounded::new(0);
-    // Not by `from_fn`: its contract says too little of a closure that borrows the count. Nor `1..=count`, whose last turn the
+    // There is room, up to the most. Not by `from_fn`: its contract says too little of a closure that borrows the count. Nor `1..=count`, whose last turn the
     // proof has apart.
     for position in 1..count + 1 {
         let _ = positions.push(position as u16);

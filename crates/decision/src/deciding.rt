@@ -38,7 +38,7 @@ impl Trial<'_> {
             elsewhere: &elsewhere,
             each: &each,
         };
-        sights.bear_out(self)
+        sights.fits(self)
     }
 }
 

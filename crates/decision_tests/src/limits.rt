@@ -1,6 +1,6 @@
 //! As many tables, classes, statements and links as there can be.
 
-use arrangement::{Classed, Refusal};
+use arrangement::Classed;
 use column::Naming;
 use decision::cited;
 use meaning::Apart;

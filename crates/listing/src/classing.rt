@@ -42,7 +42,7 @@ pub(crate) fn list_classes(names: &Paired, sort: Sort, lines: &mut Vec<Line>)
     ensures few { vec_len lines.new ≤ vec_len lines.old + 64 }
     ensures room { vec_capacity lines.new ≡ vec_capacity lines.old }
 {
-    // no `extend`: it may fail, and there is room
+    // No `extend`: it may fail, and here there is room, which the caller has kept for 64 lines.
     for name in 0..names.count() {
         if let Some(class) = class_of(names, sort, name) {
             lines.push_reserved(Line::Grouped(class));

@@ -28,11 +28,10 @@ impl From<ReadRefusal> for Fault {
 }
 
 impl Fault {
-    /// The number by which the fault is reported. No variant has a number of its own, since one has that of its refusal.
+    /// The number by which the fault is reported. By cases, and no cast: one variant has that of its refusal.
     pub fn number(&self) -> u8
         ensures { result ≡ number_of self.now }
     {
-        // By cases, since a variant that holds a refusal cannot be cast to its number.
         match self {
             Fault::LogTooLong => 37,
             Fault::Reader(refusal) => refusal.number(),

@@ -8,7 +8,7 @@ use Rattle.bounded.specs.Items.{items_of}
 use Rattle.links.specs.Lists.{present}
 use Rattle.search.specs.Entries.{Inside}
 use Rattle.paired.specs.declared.store.Paired.{Paired}
-use Rattle.paired.specs.Held.{entries_of, pairings_of}
+use Rattle.paired.specs.Held.{entries_of}
 
 pub entries_length : (x : Paired) → length (entries_of x) ≡ length (items_of x.pairs)
 entries_length x = length-map (items_of x.pairs) (λ p. Some p)

@@ -20,6 +20,7 @@ pub(crate) fn gather(standing: &Standing, column: Column) -> Gathered
     let view = view_in(standing, column);
     let mut links = Bounded::new(None);
     for x in standing.statements() {
+        // There is room, since at most 512 statements stand.
         let _ = links.push(view.link(*x));
     }
     Gathered {

@@ -56,6 +56,7 @@ pub(crate) enum Kind {
 #[derive(Clone, Copy)]
 pub(crate) struct Row {
     pub(crate) kind: Kind,
+    // In the row, and no discriminant: the reader looks for a row by its byte, and the cast of a kind is the place of its row.
     pub(crate) byte: u8,
     pub(crate) sorts: [Sort; 4],
 }

@@ -8,6 +8,7 @@ use crate::kinds::Sort;
 use std::fmt;
 
 /// A field as it is printed: a space and the number where it counts, else nothing.
+// Its sort beside it, as the table of kinds has it: whether it counts is asked in one place.
 #[derive(Clone, Copy)]
 struct Operand {
     sort: Sort,

@@ -2,7 +2,7 @@
 
 #![tactic(auto)]
 
-ghost use Rattle.std.specs.Prelude.{◌≡◌, ◌≤◌, [], vec_capacity};
+ghost use Rattle.std.specs.Prelude.{◌≡◌, ◌≤◌, [], IfOk, vec_capacity};
 
 use std::alloc::{AllocError, Global};
 
@@ -17,7 +17,9 @@ pub struct Room<T, const N: usize> {
 
 impl<T, const N: usize> Room<T, N> {
     /// Takes the memory.
-    pub fn new(heap: Global) -> Result<Room<T, N>, AllocError> {
+    pub fn new(heap: Global) -> Result<Room<T, N>, AllocError>
+        ensures { IfOk result (λ room. room.list.items ≡ []) }
+    {
         let list = Vec::with_capacity(heap, N)?;
         Ok(Room { list })
     }

@@ -8,7 +8,7 @@ ghost use Rattle.search.specs.Queues.{room, waiting};
 /// A slot is used once: each name waits once at the most, and so no slot has to be used again.
 #[derive(Drop)]
 pub struct Queue<'a, E> {
-    // A rule of the project: waiting takes no memory of its own. So the slots are lent, with a place and a count beside.
+    // A rule of the project: a queue waits in slots that its caller lends. So a place and a count stand beside a slice.
     slots: &'a mut [E],
     head: usize,
     count: usize,

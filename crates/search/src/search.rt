@@ -8,7 +8,6 @@ ghost use Rattle.search.specs.Entries.{searched};
 use crate::entry::Entry;
 use crate::goal::Goal;
 use crate::linked::Links;
-use crate::queue::Queue;
 use crate::wave::Wave;
 
 /// How many links lead from a name to the nearest name that meets the goal, if any do. Names come out of the queue

@@ -63,7 +63,7 @@ impl<'a, E: Entry> Wave<'a, E> {
         ensures does { walk_of self.new ≡ visited E.made name distance (L.entries links.now) (walk_of self.old) }
         ensures keeps { turns self.new ≡ turns self.old }
     {
-        // Entries are asked by place, so that a table with gaps need not be copied into a slice.
+        // Entries are asked by place: one table holds pairs, another pairs and gaps, so they have no slice in common.
         for k in 0..links.len() {
             if let Some(other) = other_end(links.link(k), name) {
                 self.note(other, distance);

@@ -18,8 +18,8 @@ loop-i-init c =
       blaming = blaming_none (setting t) t.offered t.rest.now _ _ c.requires.fails c.new-positions.ensures c.new-kept.ensures;
     }
 
-pub invariant_of-next : goal.invariant_of-next
-invariant_of-next c =
+pub invariant_of-next_to_blame : goal.invariant_of-next_to_blame
+invariant_of-next_to_blame c =
     let t = c.args.self.now in
     record {
       readable = lent_readable t.naming.now t.offered t.rest.now (readable_rest (setting t) t.offered t.kept.now t.rest.now t.readable)

@@ -48,7 +48,7 @@ loop-c-preserved c =
       }
     ]
 
-pub bear_out-requires : goal.bear_out-requires
-bear_out-requires c =
+pub fits-requires : goal.fits-requires
+fits-requires c =
     seen_all c.args.self.now c.sight-elsewhere.result c.sight-elsewhere.ensures (sym c.if-clashes.ensures) _ refl c.loop-c.c (omega arith)
     c.loop-c.invariant.below

@@ -5,7 +5,7 @@ use Rattle.decision.specs.Looks.{is_borne_out}
 use Rattle.decision.specs.Trials.{tried}
 use Rattle.decision.proofs.Outcome.{borne_test}
 use Rattle.meaning.specs.Columns.{difference}
-use Rattle.decision.proofs.sights.Sights.bear_out.Goals as goal
+use Rattle.decision.proofs.sights.Sights.fits.Goals as goal
 
 pub returns-then-bears_all_out : goal.returns-then-bears_all_out
 returns-then-bears_all_out c =
