@@ -8,7 +8,7 @@ use bounded::Bounded;
 /// For each name, of at most 64, the lowest name that is the same.
 #[derive(Clone, Copy)]
 pub struct Classes {
-    pub(crate) lowest: Bounded<u8, 64>,
+    pub lowest: Bounded<u8, 64>,
     ghost down: { (i : ℕ) → i < length (items_of lowest) → slice_index (items_of lowest) i ≤ i },
     ghost root: { (i : ℕ) → i < length (items_of lowest) → slice_index (items_of lowest) (slice_index (items_of lowest) i) ≡ slice_index (items_of lowest) i },
 }

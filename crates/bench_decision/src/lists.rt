@@ -2,6 +2,7 @@
 
 use statement::{Reading, Slot, Statement, Table};
 use std::alloc::{AllocError, Global};
+use std::fmt;
 
 /// What a list is made of.
 #[derive(Clone, Copy)]
@@ -14,15 +15,17 @@ pub enum Kind {
     Differences,
 }
 
-impl Kind {
-    pub fn label(self) -> &'static str {
-        match self {
+impl fmt::Display for Kind {
+    fn fmt<W: fmt::Write>(&self, f: &mut fmt::Formatter<W>) -> fmt::Result {
+        f.write_str(match self {
             Kind::Writes => "chains of writes",
             Kind::Classes => "many classes",
             Kind::Differences => "many differences",
-        }
+        })
     }
+}
 
+impl Kind {
     /// The k-th statement of the list. After 127 of them they repeat, so that all are of tables below 128.
     fn statement(self, k: usize) -> Statement {
         let t = (k % 127) as u8;
@@ -59,6 +62,7 @@ impl Kind {
 }
 
 /// Table t + 1 is table t with the reading written at the slot.
+// As in the tests of decisions, which a program cannot use.
 fn write(t: u8, slot: u8, reading: u8) -> Statement {
     Statement::W {
         b: Table(if t < 127 { t + 1 } else { 127 }),

@@ -23,6 +23,7 @@ use std::time::Instant;
 use timing::{each, is_timed};
 
 /// 64 slots and 64 readings, each with one name.
+// As in the tests of decisions, which a program cannot use.
 fn separate_names() -> Result<Naming, Refusal> {
     let mut names = Paired::new();
     names.set_count(64)?;
@@ -41,7 +42,6 @@ fn print_answers(
     xs: &[Statement],
 ) -> anyhow::Result<()> {
     let offered = kind.offered();
-    let label = kind.label();
     let count = xs.len();
     let alone = xs.first().is_none_or(|first| fits(naming, *first, &[], xs));
     let both = fits(naming, offered, &[], xs);
@@ -51,7 +51,7 @@ fn print_answers(
     let standing = stand(rt.alloc(), naming, xs)?;
     let links = sum_of(128, |k| distance_told(&standing, k));
     println!(rt;
-        "{label}, {count} statements: fit {alone}, with the offered one {both}, {cites} cited after {asked} decisions, told over {links} links"
+        "{kind}, {count} statements: fit {alone}, with the offered one {both}, {cites} cited after {asked} decisions, told over {links} links"
     )?;
     Ok(())
 }
