@@ -2,6 +2,7 @@
 
 ghost use Rattle.std.specs.Prelude.{◌≡◌, ◌<◌, ◌≤◌, true, false, [], ◌++◌, length, drop, IfSome};
 ghost use Rattle.std.specs.List.{range_with_len};
+ghost use Rattle.bounded.specs.Items.{items_of};
 ghost use Rattle.column.specs.Naming.{setting_of};
 ghost use Rattle.decision.specs.Citations.{Found, Turns, citation, cited_answer};
 ghost use Rattle.decision.specs.Trials.{fits_with, setting};
@@ -77,6 +78,7 @@ impl Trial<'_> {
     {
         let mut kept: Bounded<Statement, MOST> = Bounded::new(self.offered);
         let mut positions: Bounded<u16, MOST> = Bounded::new(0);
+        // By hand: how far the next search goes on is known only when it has found its place.
         let mut p = 0;
         while let Some(i) = (Trial {
             naming: self.naming,
@@ -91,15 +93,15 @@ impl Trial<'_> {
             p += i + 1;
             let _ = positions.push(p as u16);
         }
-        citation_of(positions.as_slice())
+        citation_of(&positions)
     }
 }
 
 /// What cites these positions.
-fn citation_of(list: &[u16]) -> Citation
-    requires { length list.now ≤ 512 }
-    ensures { result ≡ citation list.now }
+fn citation_of(list: &Bounded<u16, MOST>) -> Citation
+    ensures { result ≡ citation (items_of list.now) }
 {
+    let list = list.as_slice();
     let mut positions = [0; MOST];
     positions[..list.len()].copy_from_slice(list);
     Citation {
@@ -114,12 +116,12 @@ fn all(count: usize) -> Citation
     ensures { result ≡ citation (range_with_len 1 count) }
 {
     let mut positions: Bounded<u16, MOST> = Bounded::new(0);
-    // There is room, up to the most. Not by `from_fn`: its contract says too little of a closure that borrows the count. Nor `1..=count`, whose last turn the
-    // proof has apart.
+    // There is room, up to the most. Not by `from_fn`: its contract says too little of a closure that borrows the count. Nor
+    // `1..=count`, whose last turn the proof has apart.
     for position in 1..count + 1 {
         let _ = positions.push(position as u16);
     }
-    citation_of(positions.as_slice())
+    citation_of(&positions)
 }
 
 /// The statements of the list to blame for that the offered one does not fit with it: no filling fits it and all of them, and

@@ -31,7 +31,8 @@ pub struct Class {
 }
 
 /// A name as it is printed where it belongs to the class, and nothing where it does not.
-// A flag beside the name, so that the loop over the members writes one thing for each and has no branch.
+// A flag beside the name, so that the loop over the members writes one thing for each and has no branch. Not the operand of a
+// record, which asks a sort of the table of kinds.
 #[derive(Clone, Copy)]
 struct Member {
     name: usize,

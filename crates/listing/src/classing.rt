@@ -36,6 +36,7 @@ fn class_of(names: &Paired, sort: Sort, name: u8) -> Option<Class>
 }
 
 /// Lists the classes of one sort.
+// Room is a premise: the list is taken out of its Listing by then, whose type keeps it.
 pub(crate) fn list_classes(names: &Paired, sort: Sort, lines: &mut Vec<Line>)
     requires { vec_len lines.old + 64 ≤ vec_capacity lines.old }
     ensures listed { lines.new.items ≡ lines.old.items ++ class_lines sort (meaning_of (pairings_of names.now)) }

@@ -98,6 +98,7 @@ pub fn list(room: Room, log: &[u8]) -> Vec<Line>
 {
     let mut lines = room.into_list();
     if log.len() > LONGEST {
+        // Record 0 at byte 0, by a rule of the project: no record of such a log is looked at.
         lines.push_reserved(Line::Refused {
             number: 0,
             fault: Fault::LogTooLong,

@@ -17,6 +17,8 @@ pub(crate) fn lowest_slot(standing: &Standing, i: u8) -> Option<u8>
 }
 
 /// A column, with the classes under which the standing statements are read.
+// Both are parameters of three functions: a view has neither the statements nor the count of tables, and a struct of the two would
+// only be taken apart again.
 pub(crate) fn view_in(standing: &Standing, column: Column) -> View<'_>
     ensures naming { result.naming.now ≡ standing.now.naming }
     ensures column { result.column ≡ column }

@@ -53,6 +53,5 @@ returns c =
     let t = c.args.self.now in
     c.citation_of.ensures
     ∙ ap citation
-    (c.as_slice-2.ensures
-    ∙ sym (blaming_all t.naming.now t.offered t.rest.now (readable_rest (setting t) t.offered t.kept.now t.rest.now t.readable) _ _
+    (sym (blaming_all t.naming.now t.offered t.rest.now (readable_rest (setting t) t.offered t.kept.now t.rest.now t.readable) _ _
     c.loop-i.p c.loop-i.invariant.blaming _ c.as_slice.ensures c.in_default.ensures.turns))
