@@ -1,8 +1,7 @@
 -- What statements give, part by part.
-use Rattle.std.proofs.Common.{◌≡◌, ℕ, zero, suc, ◌+◌, ◌<◌, ◌≤◌, Bool, ◌&&◌, List, [], ◌∷◌, ◌++◌, map, length, get_or, take, Some, None, Option, sym, refl, ap, ◌∙◌, inl, inr, append_assoc, arith}
-use Rattle.std.specs.List.{flat_map, list_all}
-use Rattle.std.proofs.lemmas.List.Recursion.{same_from_clauses}
-use Rattle.std.proofs.lemmas.List.{append-nil, flat_map_more, take_all, take_more}
+use Rattle.std.proofs.Common.{◌≡◌, ℕ, zero, suc, ◌+◌, ◌<◌, List, [], ◌∷◌, ◌++◌, map, length, get_or, take, Some, None, Option, sym, refl, ap, ◌∙◌, inl, inr, append_assoc, arith}
+use Rattle.std.specs.List.{flat_map}
+use Rattle.std.proofs.lemmas.List.{append-nil, flat_map_more, take_more}
 use Rattle.links.specs.Lists.{Member, present}
 use Rattle.links.proofs.Lists.{member_left, member_right}
 use Rattle.meaning.specs.Theorems.{Within}
@@ -32,9 +31,6 @@ module _ {X Y : Type 0} (f : X → Option Y) where
       append_assoc M (present (map f (take i xs))) (present (f (get_or xs i d) ∷ []))
       ∙ ap (λ ys. M ++ ys) (sym (given-append (take i xs) (get_or xs i d ∷ [])) ∙ ap (λ ys. present (map f ys)) (sym (take_more xs i d l)))
 
-  pub given_all : (M : List Y) (xs : List X) (i : ℕ) → length xs ≤ i → M ++ present (map f (take i xs)) ≡ M ++ present (map f xs)
-  given_all M xs i l = ap (λ ys. M ++ present (map f ys)) (take_all i xs l)
-
   -- the step of a loop that goes through a list part by part
   pub given_part : {Z : Type 0} (g : Z → List X) (M : List Y) (parts : List Z) (i : ℕ) (d : Z) → i < length parts
       → (M ++ present (map f (flat_map g (take i parts)))) ++ present (map f (g (get_or parts i d)))
@@ -50,7 +46,3 @@ pub part_within : {X Z : Type 0} (g : Z → List X) (parts : List Z) (i : ℕ) (
 part_within g [] i d l x m = absurd (omega arith)
 part_within g (p ∷ ps) zero d l x m = member_left x (g p) (flat_map g ps) m
 part_within g (p ∷ ps) (suc i) d l x m = member_right x (g p) (flat_map g ps) (part_within g ps i d (omega arith) x m)
-
--- a test of all, as std says it
-pub all_is : {X : Type 0} (p : X → Bool) (xs : List X) → list_all p xs ≡ list_all p xs
-all_is p = same_from_clauses (list_all p) (list_all p) (λ x b. p x && b) refl (λ x xs. refl) (λ x xs. refl)

@@ -166,9 +166,6 @@ difference_tables (E a b) p h = absurd (none_some h)
 difference_tables (D a b) p h = subst (Both (a.0 ∷ b.0 ∷ [])) (some_inj h) (inl refl, inr (inl refl))
 
 module _ (w : Setting) (x : Statement) (within : is_within 128 w x ≡ true) (p : ℕ × ℕ) where
-  pub link_below : (k : Column) → link_at w k x ≡ Some p → (p.0 < 128) × (p.1 < 128)
-  link_below k h = let both = link_tables w k x p h in (tabled w x within p.0 both.0, tabled w x within p.1 both.1)
-
   pub mark_below : (k : Column) → mark_at w k x ≡ Some p → (p.0 < 128) × (p.1 < w.readings.size)
   mark_below k h =
       (tabled w x within p.0 (mark_table w k x p h), reading_named w x (is_named_lem w x within) p.1 (mark_reading w k x p h))

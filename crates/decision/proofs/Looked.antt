@@ -20,10 +20,9 @@ use Rattle.meaning.proofs.Sound.{slot_named}
 use Rattle.column.specs.declared.sight.Sight.{Sight}
 use Rattle.column.specs.Sights.{Readable, Seen, SeenAt, is_readable}
 use Rattle.column.proofs.Seeing.{clash_is, is_named_lem}
-use Rattle.decision.specs.Looks.{AllSeen, Loud, OfColumn, is_named_in, leads}
+use Rattle.decision.specs.Looks.{Loud, OfColumn, is_named_in, leads}
 use Rattle.decision.specs.Trials.{setting, tried}
 use Rattle.decision.specs.declared.trial.Trial.{Trial}
-use Rattle.decision.specs.declared.sights.Sights.{Sights}
 
 present_same : {X Y : Type 0} (f g : X → Option Y) (xs : List X) → ((x : X) → Member x xs → f x ≡ g x) → present (map f xs) ≡ present (map g xs)
 present_same f g [] h = refl
@@ -191,11 +190,3 @@ module _ (t : Trial) where
                   (record { column = at c; among = has_at w c r.0 r.1; seen = seen; calm = quiet })
             ];
       }
-
-    pub seen_all : (s : Sights) → s.elsewhere.now ≡ elsewhere → (n : ℕ) → 64 ≤ n → SeenBelow w xs elsewhere n s.each.now → AllSeen w xs s
-    seen_all s e n u below = record {
-      nowhere = subst (SeenAt w xs Elsewhere) (sym e) nowhere;
-      calm = subst (λ (v : Sight). v.clash ≡ false) (sym e) calm;
-      classes = λ k l low d. below.classes k (omega (arith, law.small)) low d;
-      only = λ k l d. below.only k (omega (arith, s.long)) d;
-    }

@@ -1,7 +1,7 @@
 -- Tests over lists, as loops make them.
-use Rattle.std.proofs.Common.{◌≡◌, ℕ, suc, ◌+◌, ◌<◌, ◌≤◌, Bool, true, false, not, ◌&&◌, ◌||◌, List, [], ◌∷◌, ◌++◌, length, get_or, take, sym, refl, ap, ◌∙◌, arith}
+use Rattle.std.proofs.Common.{◌≡◌, ℕ, suc, ◌+◌, ◌<◌, Bool, true, false, not, ◌&&◌, ◌||◌, List, [], ◌∷◌, ◌++◌, length, get_or, take, sym, refl, ap, ◌∙◌, arith}
 use Rattle.std.proofs.Math.Bool.{and_assoc, or_assoc}
-use Rattle.std.proofs.lemmas.List.{take_all, take_more}
+use Rattle.std.proofs.lemmas.List.{take_more}
 use Rattle.std.specs.List.{list_all, list_any}
 use Rattle.std.proofs.lemmas.Bool.{and_from}
 
@@ -23,9 +23,6 @@ module _ {X : Type 0} (p : X → Bool) where
   any_more b xs i d l =
       or_assoc b (list_any p (take i xs)) (list_any p (get_or xs i d ∷ []))
       ∙ ap (λ c. b || c) (sym (any_append (take i xs) (get_or xs i d ∷ [])) ∙ ap (list_any p) (sym (take_more xs i d l)))
-
-  pub any_all : (b : Bool) (xs : List X) (i : ℕ) → length xs ≤ i → (b || list_any p (take i xs)) ≡ (b || list_any p xs)
-  any_all b xs i l = ap (λ ys. b || list_any p ys) (take_all i xs l)
 
   -- one, then two lists
   pub any_three : (x : X) (xs ys : List X) → ((list_any p (x ∷ []) || list_any p xs) || list_any p ys) ≡ list_any p (x ∷ (xs ++ ys))

@@ -1,5 +1,5 @@
 -- What is in a list, tests over lists, what is there among gaps, and the least number that passes a test.
-use Rattle.std.specs.Prelude.{◌≡◌, ℕ, zero, suc, Bool, true, false, cond, ◌&&◌, ◌||◌, ◌⊎◌, List, [], ◌∷◌, Some, None, Option}
+use Rattle.std.specs.Prelude.{◌≡◌, ℕ, zero, suc, Bool, cond, ◌⊎◌, List, [], ◌∷◌, Some, None, Option}
 
 -- x is in the list
 abbrev pub Member : {X : Type 0} → X → List X → Type 0

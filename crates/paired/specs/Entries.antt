@@ -1,17 +1,13 @@
 -- The pairings as a search reads them.
-use Rattle.std.specs.Prelude.{◌≡◌, ℕ, zero, suc, ◌<◌, List, [], ◌∷◌, map, length, Some, None, slice_get, slice_index_or, refl}
+use Rattle.std.specs.Prelude.{◌≡◌, ℕ, zero, suc, ◌<◌, List, [], ◌∷◌, map, Some, None, slice_get, slice_index_or, refl}
 use Rattle.std.proofs.Common.{ap}
 use Rattle.std.proofs.ByRecursion.{All-from_get_or, All-map}
-use Rattle.std.proofs.lemmas.List.{length-map}
 use Rattle.std.specs.List.{AllByRecursion}
 use Rattle.bounded.specs.Items.{items_of}
 use Rattle.links.specs.Lists.{present}
 use Rattle.search.specs.Entries.{Inside}
 use Rattle.paired.specs.declared.store.Paired.{Paired}
 use Rattle.paired.specs.Held.{entries_of}
-
-pub entries_length : (x : Paired) → length (entries_of x) ≡ length (items_of x.pairs)
-entries_length x = length-map (items_of x.pairs) (λ p. Some p)
 
 pub entry_at : (links : List (ℕ × ℕ)) (k : ℕ) → slice_get links k ≡ slice_index_or (map Some links) k None
 entry_at [] k = refl

@@ -1,5 +1,5 @@
 -- What a table of standing statements keeps, when it grows and when it shrinks.
-use Rattle.std.proofs.Common.{◌≡◌, ℕ, zero, suc, ◌≤◌, Bool, true, not, ◌&&◌, ltb, List, [], ◌∷◌, ◌++◌, length, sym, refl, ap, ◌∙◌, subst, inl, inr, arith}
+use Rattle.std.proofs.Common.{◌≡◌, ℕ, zero, suc, ◌≤◌, Bool, true, not, ◌&&◌, ltb, List, [], ◌∷◌, ◌++◌, length, sym, refl, ap, subst, inl, inr, arith}
 use Rattle.std.specs.List.{list_all, remove}
 use Rattle.std.proofs.lemmas.Bool.{and_from, and_parts, lt-ltb, ltb-true}
 use Rattle.links.proofs.Lists.{all_from, all_has, member_cases}
@@ -98,11 +98,6 @@ module _ (t : ℕ) (naming : Naming) where
     offered_readable few named ys lent =
         subst (λ (l : List Statement). Readable w (x ∷ l)) (sym lent)
         (λ y m. within_more t 128 w few y (all_has (is_within t w) (x ∷ xs) y (offered_within (sym named)) m))
-
-    pub offered_answer : true ≡ is_within t w x → (ys : List Statement) → ys ≡ xs
-        → (r : Bool) → r ≡ test w (x ∷ ys) → r ≡ (is_within t w x && test w (x ∷ xs))
-    offered_answer named ys lent r answer =
-        answer ∙ ap (λ (l : List Statement). test w (x ∷ l)) lent ∙ ap (λ b. b && test w (x ∷ xs)) named
 
     pub added_stands : true ≡ (is_within t w x && test w (x ∷ xs)) → is_standing t naming (xs ++ x ∷ []) ≡ true
     added_stands e =

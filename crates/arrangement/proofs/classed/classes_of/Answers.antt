@@ -23,12 +23,9 @@ invariant_of-result g c =
       root = root_from _ (law g a) _ e stored;
     }
 
-pub returns : goal.returns
-returns g c =
+pub returns-clause-agrees : goal.returns-clause-agrees
+returns-clause-agrees g c =
     let a = c.args.a.now in
     let listed = c.loop-i.invariant in
     let e : length (items_of c.loop-i.lowest) ≡ (g.A.Arrangement.meaning a).size = omega (arith, listed.0, c.count-i-end.ensures) in
-    record {
-      size = e;
-      agrees = agrees (g.A.Arrangement.meaning a) (law g a) _ e (λ k l. listed.1 k (omega (arith, listed.0)));
-    }
+    agrees (g.A.Arrangement.meaning a) (law g a) _ e (λ k l. listed.1 k (omega (arith, listed.0)))

@@ -3,7 +3,7 @@ use Rattle.column.specs.Naming.{setting_of}
 use Rattle.column.proofs.Parts.{member_at}
 use Rattle.decision.specs.Looks.{is_named_in, leads}
 use Rattle.decision.proofs.Looked.{readable_one}
-use Rattle.decision.proofs.Runs.{any_all, any_more}
+use Rattle.decision.proofs.Runs.{any_more}
 use Rattle.meaning.specs.Fillings.{slot_of}
 use Rattle.decision.proofs.looking.note_classes.Goals as goal
 
@@ -15,9 +15,3 @@ loop-x-preserved c k l readable =
     c.note_class.ensures k l (readable_one w xs x readable (member_at xs c.loop-x.x-index _ c.loop-x-test.true))
     ∙ ap (λ b. b || is_named_in w.slots (x ∷ []) k) (c.loop-x.invariant k l readable)
     ∙ any_more (λ x. leads w.slots k (slot_of x)) (get_or c.args.named.now k false) xs c.loop-x.x-index _ c.loop-x-test.true
-
-pub returns : goal.returns
-returns c k l readable =
-    let w = setting_of c.args.naming.now in
-    c.loop-x.invariant k l readable
-    ∙ any_all (λ x. leads w.slots k (slot_of x)) (get_or c.args.named.now k false) c.args.xs.now c.loop-x.x-index c.loop-x-test.false

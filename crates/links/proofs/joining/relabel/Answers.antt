@@ -1,7 +1,7 @@
-use Rattle.std.proofs.Common.{◌≡◌, ◌++◌, get_or, take, set, ap, ◌∙◌, arith}
+use Rattle.std.proofs.Common.{get_or, set, ap, ◌∙◌, arith}
 use Rattle.std.proofs.lemmas.List.Edits.{map_over_more}
-use Rattle.std.proofs.lemmas.List.{append-nil, drop_all, get_or_default, take_all}
-use Rattle.links.specs.Groups.{label_for, relabelled}
+use Rattle.std.proofs.lemmas.List.{get_or_default}
+use Rattle.links.specs.Groups.{label_for}
 use Rattle.links.proofs.joining.relabel.Goals as goal
 
 pub loop-label-preserved : goal.loop-label-preserved
@@ -10,11 +10,3 @@ loop-label-preserved c =
     let labels = c.loop-label.labels in
     let here = get_or_default labels i 0 (get_or labels i 0) (omega (arith, c.loop-label.auto.labels)) in
     ap (set labels i) c.label_for.ensures ∙ map_over_more (label_for c.args.old c.args.new) c.args.labels.now labels i (get_or labels i 0) c.loop-label-test.true c.loop-label.invariant here
-
-pub returns : goal.returns
-returns c =
-    let i = c.loop-label.label-index in
-    let labels = c.args.labels.now in
-    let done : take i labels ≡ labels = take_all i labels c.loop-label-test.false in
-    let rest = drop_all i labels c.loop-label-test.false in
-    c.loop-label.invariant ∙ (λ j. relabelled c.args.old c.args.new (done j) ++ rest j) ∙ append-nil _

@@ -1,6 +1,6 @@
 use Rattle.std.proofs.Common.{sym, subst}
 use Rattle.column.specs.Naming.{setting_of}
-use Rattle.column.proofs.Parts.{given_all, given_more, given_none, member_at}
+use Rattle.column.proofs.Parts.{given_more, given_none, member_at}
 use Rattle.links.specs.Groups.{Roots}
 use Rattle.meaning.specs.Columns.{link_at, links_at}
 use Rattle.column.proofs.view.View.add_links.Goals as goal
@@ -18,10 +18,3 @@ loop-x-preserved c links readable roots =
     (given_more f links c.args.xs.now c.loop-x.x-index _ c.loop-x-test.true)
     (c.add_link.ensures _ (readable _ (member_at c.args.xs.now c.loop-x.x-index _ c.loop-x-test.true))
     (c.loop-x.invariant links readable roots))
-
-pub returns : goal.returns
-unfolding links_at
-returns c links readable roots =
-    subst (λ l. Roots l c.loop-x.groups.root)
-    (given_all (link_at (setting_of c.args.self.now.naming.now) c.args.self.now.column) links c.args.xs.now c.loop-x.x-index c.loop-x-test.false)
-    (c.loop-x.invariant links readable roots)

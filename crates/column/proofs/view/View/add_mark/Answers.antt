@@ -1,5 +1,4 @@
 use Rattle.std.proofs.Common.{◌≡◌, [], ◌∷◌, ◌++◌, sym, ◌∙◌, subst}
-use Rattle.std.proofs.lemmas.List.{append-nil}
 use Rattle.std.proofs.lemmas.Bool.{cond-true, lt-ltb}
 use Rattle.arrangement.specs.Meaning.{lowest}
 use Rattle.arrangement.specs.Kept.{lawful}
@@ -7,7 +6,7 @@ use Rattle.column.specs.Naming.{setting_of}
 use Rattle.column.specs.Sights.{Seen}
 use Rattle.column.proofs.Seeing.{mark_below, seen_marked}
 use Rattle.links.specs.Lists.{present}
-use Rattle.meaning.proofs.Lists.{none_some, some_inj}
+use Rattle.meaning.proofs.Lists.{some_inj}
 use Rattle.column.proofs.view.View.add_mark.Goals as goal
 
 pub returns : goal.returns
@@ -22,16 +21,3 @@ returns c links marks within seen =
     (seen_marked w.readings (lawful c.args.self.now.naming.now.readings) links marks c.args.sight.now c.add_mark.new.self seen
     t v c.in-Some-lowest.reading below.0 below.1 low
     c.add_mark.ensures.groups c.add_mark.ensures.marks c.add_mark.ensures.clash)
-
-pub returns-in_default-lowest : goal.returns-in_default-lowest
-returns-in_default-lowest c links marks within seen =
-    let w = setting_of c.args.self.now.naming.now in
-    let v = c.in-Some.v in
-    let below = mark_below w c.args.x within (c.in-Some.table, v) c.args.self.now.column (sym c.in-Some.ensures) in
-    absurd (none_some (c.in_default-lowest.ensures ∙ cond-true _ _ _ (lt-ltb v w.readings.size below.1)))
-
-pub returns-in_default : goal.returns-in_default
-returns-in_default c links marks within seen =
-    let w = setting_of c.args.self.now.naming.now in
-    subst (λ o. Seen w.readings links (marks ++ present (o ∷ [])) c.args.sight.now) c.in_default.ensures
-    (subst (λ l. Seen w.readings links l c.args.sight.now) (sym (append-nil marks)) seen)

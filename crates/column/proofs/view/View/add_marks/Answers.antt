@@ -1,7 +1,7 @@
 use Rattle.std.proofs.Common.{sym, subst}
 use Rattle.column.specs.Naming.{setting_of}
 use Rattle.column.specs.Sights.{Seen}
-use Rattle.column.proofs.Parts.{given_all, given_more, given_none, member_at}
+use Rattle.column.proofs.Parts.{given_more, given_none, member_at}
 use Rattle.meaning.specs.Columns.{mark_at, marks_at}
 use Rattle.column.proofs.view.View.add_marks.Goals as goal
 
@@ -19,11 +19,3 @@ loop-x-preserved c links marks readable seen =
     (given_more (mark_at w c.args.self.now.column) marks c.args.xs.now c.loop-x.x-index _ c.loop-x-test.true)
     (c.add_mark.ensures links _ (readable _ (member_at c.args.xs.now c.loop-x.x-index _ c.loop-x-test.true))
     (c.loop-x.invariant links marks readable seen))
-
-pub returns : goal.returns
-unfolding marks_at
-returns c links marks readable seen =
-    let w = setting_of c.args.self.now.naming.now in
-    subst (λ l. Seen w.readings links l c.loop-x.sight)
-    (given_all (mark_at w c.args.self.now.column) marks c.args.xs.now c.loop-x.x-index c.loop-x-test.false)
-    (c.loop-x.invariant links marks readable seen)

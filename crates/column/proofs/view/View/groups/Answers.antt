@@ -1,7 +1,5 @@
 use Rattle.std.proofs.Common.{[], subst}
-use Rattle.std.proofs.lemmas.List.{take_all}
 use Rattle.column.specs.Naming.{setting_of}
-use Rattle.column.specs.Sights.{whole}
 use Rattle.column.proofs.Parts.{given_part, part_within}
 use Rattle.links.specs.Groups.{Roots}
 use Rattle.meaning.specs.Columns.{link_at, links_at}
@@ -20,9 +18,3 @@ loop-xs-preserved c readable =
     let l = c.loop-xs-test.true in
     subst (λ L. Roots L c.add_links.new.groups.root) (given_part (link_at w c.args.self.now.column) (λ xs. xs.now) [] parts i _ l)
     (c.add_links.ensures _ (λ x m. readable x (part_within (λ xs. xs.now) parts i _ l x m)) (c.loop-xs.invariant readable))
-
-pub returns : goal.returns
-returns c readable =
-    let k = c.args.self.now in
-    subst (λ xs. Roots (links_at (setting_of k.naming.now) (whole xs) k.column) c.loop-xs.groups.root)
-    (take_all c.loop-xs.xs-index c.args.parts.now c.loop-xs-test.false) (c.loop-xs.invariant readable)

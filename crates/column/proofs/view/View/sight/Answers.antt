@@ -1,5 +1,4 @@
 use Rattle.std.proofs.Common.{[], subst}
-use Rattle.std.proofs.lemmas.List.{take_all}
 use Rattle.column.specs.Naming.{setting_of}
 use Rattle.column.specs.Sights.{Seen, whole}
 use Rattle.column.proofs.Parts.{given_part, part_within}
@@ -21,11 +20,3 @@ loop-xs-preserved c readable =
     let l = c.loop-xs-test.true in
     subst (λ M. Seen w.readings (links_at w (whole parts) k) M c.add_marks.new.sight) (given_part (mark_at w k) (λ xs. xs.now) [] parts i _ l)
     (c.add_marks.ensures _ _ (λ x m. readable x (part_within (λ xs. xs.now) parts i _ l x m)) (c.loop-xs.invariant readable))
-
-pub returns : goal.returns
-returns c readable =
-    let w = setting_of c.args.self.now.naming.now in
-    let k = c.args.self.now.column in
-    let parts = c.args.parts.now in
-    subst (λ xs. Seen w.readings (links_at w (whole parts) k) (marks_at w (whole xs) k) c.loop-xs.sight)
-    (take_all c.loop-xs.xs-index parts c.loop-xs-test.false) (c.loop-xs.invariant readable)

@@ -2,7 +2,7 @@
 use Rattle.std.proofs.Common.{◌<◌, refl, sym, ◌∙◌, arith, length-set}
 use Rattle.std.proofs.lemmas.List.{set-get_or}
 use Rattle.decision.specs.Trials.{setting, tried}
-use Rattle.decision.proofs.Looked.{loud_at, loud_elsewhere, seen_all, seen_set, seen_skip, seen_start}
+use Rattle.decision.proofs.Looked.{loud_at, loud_elsewhere, seen_set, seen_skip, seen_start}
 use Rattle.decision.proofs.Outcome.{loud_fails}
 use Rattle.decision.proofs.trial.Trial.fits.Goals as goal
 use Rattle.decision.proofs.trial.Trial.fits.Goals.{then-named-c+else-clashes-2, else-named-c}
@@ -47,8 +47,3 @@ loop-c-preserved c =
             (sym (c.classes_named-named.ensures k small) ∙ w.if-named-c.false));
       }
     ]
-
-pub fits-requires : goal.fits-requires
-fits-requires c =
-    seen_all c.args.self.now c.sight-elsewhere.result c.sight-elsewhere.ensures (sym c.if-clashes.ensures) _ refl c.loop-c.c (omega arith)
-    c.loop-c.invariant.below

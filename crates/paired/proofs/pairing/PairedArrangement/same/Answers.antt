@@ -1,9 +1,7 @@
-use Rattle.std.proofs.Common.{◌≡◌, ◌<◌, ◌&&◌, ltb, sym, ap, ◌∙◌, arith}
+use Rattle.std.proofs.Common.{◌<◌, ◌&&◌, ltb, sym, ap, ◌∙◌, arith}
 use Rattle.std.proofs.lemmas.Bool.{and_left, and_parts, ltb-true}
 use Rattle.links.specs.Chains.{joined}
-use Rattle.arrangement.specs.Meaning.{same}
 use Rattle.paired.specs.Held.{pairings_of}
-use Rattle.paired.specs.Pairings.{meaning_of}
 use Rattle.paired.specs.Same.{roots_joined, same_after, same_is}
 use Rattle.paired.proofs.pairing.PairedArrangement.same.Goals as goal
 
@@ -19,10 +17,7 @@ returns-then-are_names c =
     let is = c.are_joined.ensures ∙ roots_joined links s.groups.root s.groups.long s.grouped i j low low' ∙ ap (λ t. t && joined links i j) c.if-are_names.ensures ∙ sym (same_is (pairings_of s) i j) in
     record { is = is; after = same_after (pairings_of s) i j c.are_joined.result is }
 
-pub returns-else-are_names : goal.returns-else-are_names
-returns-else-are_names c =
+pub returns-else-are_names-clause-is : goal.returns-else-are_names-clause-is
+returns-else-are_names-clause-is c =
     let s = c.args.self.now in
-    let i = c.args.i in
-    let j = c.args.j in
-    let is : c.are_names.result ≡ same (meaning_of (pairings_of s)) i j = c.if-are_names.false ∙ sym (same_is (pairings_of s) i j ∙ and_left _ _ (sym c.if-are_names.ensures)) in
-    record { is = is; after = same_after (pairings_of s) i j c.are_names.result is }
+    c.if-are_names.false ∙ sym (same_is (pairings_of s) c.args.i c.args.j ∙ and_left _ _ (sym c.if-are_names.ensures))

@@ -3,16 +3,11 @@ use Rattle.links.proofs.Fewest.{nearest}
 use Rattle.search.specs.Entries.{searched}
 use Rattle.paired.specs.Entries.{all_present}
 use Rattle.paired.specs.Held.{pairings_of}
-use Rattle.paired.proofs.Answered.{why_found, why_refused}
+use Rattle.paired.proofs.Answered.{why_found}
 use Rattle.paired.proofs.store.Paired.why_by.Goals as goal
 
-pub returns-then-not-are_names : goal.returns-then-not-are_names
-returns-then-not-are_names g c =
-    let p = pairings_of c.args.self.now in
-    record {
-      is = why_refused p c.args.i c.args.j (sym c.if-not-are_names.ensures);
-      nearest = nearest p.links (λ y. eqb y c.args.j) c.args.i;
-    }
+pub returns-then-not-are_names-clause-nearest : goal.returns-then-not-are_names-clause-nearest
+returns-then-not-are_names-clause-nearest g c = nearest (pairings_of c.args.self.now).links (λ y. eqb y c.args.j) c.args.i
 
 pub returns : goal.returns
 returns g c =

@@ -1,5 +1,5 @@
 use Rattle.std.proofs.Common.{vec_items}
-use Rattle.standing.proofs.Changes.{offered_answer, offered_readable}
+use Rattle.standing.proofs.Changes.{offered_readable}
 use Rattle.standing.proofs.standing.Standing.fits.Goals as goal
 
 pub invariant_of-trial : goal.invariant_of-trial
@@ -9,9 +9,3 @@ invariant_of-trial c =
       readable = offered_readable s.tables s.naming c.args.offered (vec_items s.list) s.stands s.few
           c.if-not-is_within.ensures c.as_slice.result.now c.as_slice.ensures.value;
     }
-
-pub returns : goal.returns
-returns c =
-    let s = c.args.self.now in
-    offered_answer s.tables s.naming c.args.offered (vec_items s.list) s.stands
-    c.if-not-is_within.ensures c.as_slice.result.now c.as_slice.ensures.value c.fits.result c.fits.ensures

@@ -1,18 +1,12 @@
-use Rattle.std.proofs.Common.{◌≤◌, length, vec_items, sym, refl, ap, ◌∙◌, arith}
-use Rattle.std.proofs.lemmas.Option.{slice_get_past, slice_get_read}
+use Rattle.std.proofs.Common.{length, vec_items, sym, refl, ap, ◌∙◌, arith}
+use Rattle.std.proofs.lemmas.Option.{slice_get_read}
 use Rattle.standing.specs.Stands.{stands_of, with_statements}
 use Rattle.standing.proofs.Changes.{omit_beyond, omitted_stands, removed_omit}
 use Rattle.standing.proofs.standing.Standing.remove.Goals as goal
 
-pub returns-then-k-len : goal.returns-then-k-len
-returns-then-k-len c =
-    let k = c.args.k in
-    let xs = vec_items c.args.self.now.list in
-    let beyond : length xs ≤ k = omega arith in
-    record {
-      answer = sym (slice_get_past xs k beyond);
-      holds = ap (with_statements (stands_of c.args.self.now)) (sym (omit_beyond k xs beyond));
-    }
+pub returns-then-k-len-clause-holds : goal.returns-then-k-len-clause-holds
+returns-then-k-len-clause-holds c =
+    ap (with_statements (stands_of c.args.self.now)) (sym (omit_beyond c.args.k (vec_items c.args.self.now.list) (omega arith)))
 
 pub invariant_of-self : goal.invariant_of-self
 invariant_of-self c =
