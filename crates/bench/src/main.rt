@@ -51,6 +51,7 @@ fn sum_of<Q: Fn(u8, u8) -> u8, P: Fn(u32) -> (u8, u8)>(question: &Q, pick: P, ti
 }
 
 /// Prints what the answers for each two names, and those for both ends, add up to.
+// The handle, the label and how often are parameters of all that print: a struct of them would only be taken apart again.
 fn print_sums<Q: Fn(u8, u8) -> u8>(
     rt: &HostRuntime,
     label: &str,

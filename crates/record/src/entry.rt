@@ -55,7 +55,7 @@ impl Record {
     }
 
     /// The record of a kind that has these fields; those that the kind leaves unused do not matter.
-    // No `From` of a pair: that would not say that fields which the kind leaves unused are dropped.
+    // No `From` of a pair, nor for the way back: that would not say that fields which the kind leaves unused are dropped.
     pub(crate) fn of(kind: Kind, fields: [u8; 4]) -> Record
         ensures { result ≡ record_of kind fields }
     {

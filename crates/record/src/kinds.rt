@@ -120,6 +120,7 @@ impl Kind {
 }
 
 /// The fields, with 0 for each that does not count.
+// The sorts of a row and the fields of a record stand apart, in two arrays: the row is a constant, and the fields come with a log.
 pub(crate) fn masked(sorts: [Sort; 4], fields: [u8; 4]) -> [u8; 4]
     ensures { result ≡ masked sorts fields }
 {
