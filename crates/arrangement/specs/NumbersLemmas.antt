@@ -1,6 +1,6 @@
 -- A list of numbers, of which equal ones mean the same, makes a lawful arrangement.
-use Rattle.std.specs.Prelude.{◌≡◌, ℕ, ◌≤◌, false, List, length, Some, None, Option, nat_eq, slice_get, slice_index, refl}
-use Rattle.std.proofs.Common.{◌∙◌, ap, ap₂, inl, inr}
+use Rattle.std.specs.Prelude.{◌≡◌, ℕ, ◌≤◌, false, List, length, is_some, Some, None, Option, nat_eq, slice_get, slice_index, refl}
+use Rattle.std.proofs.Common.{◌∙◌, sym, ap, ap₂, inl, inr}
 use Rattle.std.proofs.lemmas.Bool.{cases_lt}
 use Rattle.std.proofs.lemmas.Option.{slice_get-get_or, slice_get_past}
 use Rattle.bounded.specs.Laws.{few}
@@ -20,6 +20,10 @@ none_right : (o : Option ℕ) → both_equal nat_eq o None ≡ false
 none_right None = refl
 none_right (Some x) = refl
 
+none_left : (o p : Option ℕ) → is_some o ≡ false → both_equal nat_eq o p ≡ false
+none_left None p none = refl
+none_left (Some x) p none = absurd (cc)
+
 -- names are the same exactly where there are equal numbers for both
 module _ (numbers : List ℕ) (i j : ℕ) where
   pub equal_is_same : both_equal nat_eq (slice_get numbers i) (slice_get numbers j) ≡ same (assigned_meaning numbers) i j
@@ -32,3 +36,7 @@ module _ (numbers : List ℕ) (i j : ℕ) where
         ]
         | inr past ↦ ap (λ o. both_equal nat_eq o (slice_get numbers j)) (slice_get_past numbers i past) ∙ left_beyond m i j past
       ]
+
+  -- and so never where there is no number for the first
+  pub none_is_not_same : is_some (slice_get numbers i) ≡ false → false ≡ same (assigned_meaning numbers) i j
+  none_is_not_same none = sym (none_left (slice_get numbers i) (slice_get numbers j) none) ∙ equal_is_same

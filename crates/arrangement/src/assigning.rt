@@ -45,6 +45,8 @@ impl Arrangement for Assigned {
     }
 
     fn same(&self, i: u8, j: u8) -> bool {
-        are_equal(self.numbers.get(i as usize), self.numbers.get(j as usize))
+        // As in `Classes`: the second name is looked up only where the first is one.
+        let number = self.numbers.get(i as usize);
+        number.is_some() && are_equal(number, self.numbers.get(j as usize))
     }
 }

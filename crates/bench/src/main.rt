@@ -8,9 +8,9 @@ use anyhow::anyhow;
 use arrangement::{Arrangement, Refusal};
 use paired::store::Paired;
 use search::entry::Reached;
-use std::io;
 use std::time::{Duration, Instant};
-use timing::{each, is_timed};
+use std::{env, io};
+use timing::{asks_for_times, each};
 
 /// All names in a row, each paired with the next, again and again until there is room for no pairing more: the farthest names
 /// are as far apart as can be, and each step of a search goes through as many pairings as can be.
@@ -107,7 +107,7 @@ fn main(rt: HostRuntime) -> anyhow::Result<()> {
     print_sums(&rt, "same", &same, 4096)?;
     print_sums(&rt, "why", &why, 4096)?;
     print_sums(&rt, "why_measured", &why_measured, 4096)?;
-    if is_timed(&rt)? {
+    if env::args(&rt)?.any(|word| asks_for_times(word.as_str())) {
         print_times(&rt, "same", &same, 1_000_000)?;
         print_times(&rt, "why", &why, 10_000)?;
         print_times(&rt, "why_measured", &why_measured, 10_000)?;

@@ -18,9 +18,9 @@ use questions::told;
 use standing::{Room, Standing};
 use statement::{Slot, Statement, Table};
 use std::alloc::{AllocError, Global};
-use std::io;
 use std::time::Instant;
-use timing::{each, is_timed};
+use std::{env, io};
+use timing::{asks_for_times, each};
 
 /// 64 slots and 64 readings, each with one name.
 // As in the tests of decisions, which a program cannot use.
@@ -115,7 +115,7 @@ fn main(rt: HostRuntime) -> anyhow::Result<()> {
     let Ok(naming) = separate_names() else {
         return Err(anyhow!("no room for the names"));
     };
-    let timed = is_timed(&rt)?;
+    let timed = env::args(&rt)?.any(|word| asks_for_times(word.as_str()));
     for kind in [Kind::Writes, Kind::Classes, Kind::Differences] {
         for count in [32, 128, 512] {
             let statements = list(rt.alloc(), kind, count)?;

@@ -112,7 +112,8 @@ impl View<'_> {
         }
     }
 
-    /// The groups of tables that a list links at the column.
+    /// The groups of tables that a list links at the column. Written out too, for `sight`.
+    #[inline(always)]
     fn groups(&self, parts: &[&[Statement]]) -> Groups
         ensures { Readable (setting_of self.now.naming.now) (whole parts.now) → Roots (links_at (setting_of self.now.naming.now) (whole parts.now) self.now.column) result.root }
     {

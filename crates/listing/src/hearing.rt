@@ -20,16 +20,17 @@ impl Names {
         }
     }
 
-    /// Sets both counts, or neither: new names take the place of the old ones once both are set.
+    /// Sets both counts, or neither.
     fn open(&mut self, slots: u8, readings: u8) -> Result<(), Refusal>
         ensures answer { result ≡ answer (or_else (count_questions slots) (count_questions readings)) tt }
         ensures holds { sorts_of self.new ≡ left (or_else (count_questions slots) (count_questions readings)) (opened slots readings) (sorts_of self.old) }
     {
-        let mut opened = Names::new();
-        opened.slots.set_count(slots)?;
-        opened.readings.set_count(readings)?;
-        *self = opened;
-        Ok(())
+        // Asked before the slots are set, so that a refusal leaves both as they are.
+        if readings > 64 {
+            return Err(Refusal::TooManyNames);
+        }
+        self.slots.set_count(slots)?;
+        self.readings.set_count(readings)
     }
 
     /// Opens or pairs as the record says, or answers why that is refused.

@@ -29,10 +29,8 @@ impl Asked<'_> {
         ensures { result ≡ distance (setting_in self.now.standing.now) (list_in self.now.standing.now) self.now.column self.now.table }
     {
         let links = gather(self.standing, self.column);
-        let marked = Marked {
-            view: view_in(self.standing, self.column),
-            list: self.standing.statements(),
-        };
+        let view = view_in(self.standing, self.column);
+        let marked = Marked::of(view, self.standing.statements());
         search::<Gathered, Marked<'_>, Reached>(&links, &marked, self.table)
     }
 

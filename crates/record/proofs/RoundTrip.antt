@@ -1,25 +1,27 @@
 -- A record is read from its own seven bytes, and from no others.
-use Rattle.std.proofs.Common.{◌≡◌, ℕ, suc, ◌+◌, ◌<◌, ◌≤◌, Bool, true, false, cond, ◌||◌, eqb, ltb, List, [], ◌∷◌, ◌++◌, map, length, get_or, take, drop, Some, None, Ok, Err, Option, Result, sym, refl, ap, ◌∙◌, subst, arith}
+use Rattle.std.proofs.Common.{◌≡◌, ℕ, suc, ◌+◌, ◌<◌, ◌≤◌, Bool, true, false, cond, ◌||◌, eqb, ltb, List, [], ◌∷◌, ◌++◌, map, length, get_or, take, drop, Some, None, Ok, Err, Option, Result, sym, refl, ap, ◌∙◌, subst, arith, lit<}
 use Rattle.std.proofs.lemmas.List.{drop_at, get_or-map, nil_from_length}
 use Rattle.std.proofs.lemmas.Bool.{and_from, and_parts, cond-false, cond-true, eqb-true, le-ltb, ltb-false, ne_eqb}
 use Rattle.statement.specs.declared.Statement.TheVariants.{W, R, E, D}
 use Rattle.record.specs.declared.entry.Record.{Record}
 use Rattle.record.specs.declared.entry.Record.TheVariants.{Open, PairSlots, PairReadings, State}
 use Rattle.record.specs.declared.kinds.Kind.{Kind}
+use Rattle.record.specs.declared.kinds.Kind.TheVariants.{Opening, SlotPairing, ReadingPairing, Writes, Reads, Equals, Differs}
 use Rattle.record.specs.declared.kinds.Row.{Row}
 use Rattle.record.specs.declared.kinds.Sort.{Sort}
 use Rattle.record.specs.declared.reading.ReadRefusal.{ReadRefusal}
 use Rattle.record.specs.declared.reading.ReadRefusal.TheVariants.{Incomplete, Unmarked, UnusedFieldSet}
-use Rattle.record.specs.Kinds.{allows, counts, kinds, masked, opening, row_in, row_of, unused_are_zero}
+use Rattle.record.specs.Kinds.{allows, counts, kinds, masked, opening, place, row_in, row_of, unused_are_zero}
 use Rattle.record.specs.Records.{OneRecordEach, advance, bytes_of, fields_in, fields_of, kind_of, marked, read_fields, read_one, record_of, record_with}
 
--- The rule of the table, at every row at once: the row is found by its kind, it has four fields, and a record of its kind
--- gives back the kind and the fields that count.
+-- The rule of the table, at every row at once: the row is found by its byte and by its kind, it has four fields, and a
+-- record of its kind gives back the kind and the fields that count.
 abbrev Facts : Type 0
-Facts = Row × ℕ × Kind × List ℕ
+Facts = Option Row × Row × ℕ × Kind × List ℕ
 
 abbrev asked : ℕ → ℕ → ℕ → ℕ → Row → Facts
 asked x y z u row = (
+  row_in kinds row.byte,
   row_of row.kind,
   length row.sorts,
   kind_of (record_with row.kind x y z u),
@@ -27,7 +29,7 @@ asked x y z u row = (
 )
 
 abbrev wanted : ℕ → ℕ → ℕ → ℕ → Row → Facts
-wanted x y z u row = (row, 4, row.kind, masked row.sorts (x ∷ y ∷ z ∷ u ∷ []))
+wanted x y z u row = (Some row, row, 4, row.kind, masked row.sorts (x ∷ y ∷ z ∷ u ∷ []))
 
 rule : (x y z u : ℕ) → map (asked x y z u) kinds ≡ map (wanted x y z u) kinds
 rule x y z u = refl
@@ -37,6 +39,19 @@ at_row : (x y z u k : ℕ) → k < length kinds → asked x y z u (get_or kinds 
 at_row x y z u k within =
     let d : Facts = asked x y z u opening in
     sym (get_or-map (asked x y z u) kinds k opening d within) ∙ ap (λ facts. get_or facts k d) (rule x y z u) ∙ get_or-map (wanted x y z u) kinds k opening d within
+
+-- the rule, at the row of a kind
+place_within : (kind : Kind) → place kind < length kinds
+place_within Opening = lit< tt
+place_within SlotPairing = lit< tt
+place_within ReadingPairing = lit< tt
+place_within Writes = lit< tt
+place_within Reads = lit< tt
+place_within Equals = lit< tt
+place_within Differs = lit< tt
+
+at_kind : (kind : Kind) → asked 0 0 0 0 (row_of kind) ≡ wanted 0 0 0 0 (row_of kind)
+at_kind kind = at_row 0 0 0 0 (place kind) (place_within kind)
 
 -- where a row that was found stands
 row_place : (rows : List Row) (byte : ℕ) (row : Row) → row_in rows byte ≡ Some row → (k : ℕ) × (k < length rows) × (get_or rows k opening ≡ row) × (row.byte ≡ byte)
@@ -71,6 +86,11 @@ masked_clear [] fields = refl
 masked_clear (s ∷ sorts) [] = refl
 masked_clear (s ∷ sorts) (x ∷ fields) = and_from _ _ (field_clear (counts s) x) (masked_clear sorts fields)
 
+masked_length : (sorts : List Sort) (fields : List ℕ) → length fields ≡ length sorts → length (masked sorts fields) ≡ length sorts
+masked_length [] fields e = refl
+masked_length (s ∷ sorts) [] e = absurd (omega arith)
+masked_length (s ∷ sorts) (x ∷ fields) e = ap suc (masked_length sorts fields (omega arith))
+
 -- the first seven bytes, one by one
 seven : (bytes : List ℕ) → 7 ≤ length bytes → take 7 bytes ≡ get_or bytes 0 0 ∷ get_or bytes 1 0 ∷ get_or bytes 2 0 ∷ get_or bytes 3 0 ∷ get_or bytes 4 0 ∷ get_or bytes 5 0 ∷ get_or bytes 6 0 ∷ []
 seven [] h = absurd (omega arith)
@@ -102,10 +122,10 @@ own_bytes : (row : Row) (k : ℕ) → k < length kinds → get_or kinds k openin
 own_bytes row k within is x y z u clear =
     let Rule : Row → Type 0 = λ r. asked x y z u r ≡ wanted x y z u r in
     let facts : asked x y z u row ≡ wanted x y z u row = subst Rule is (at_row x y z u k within) in
-    let found : row_of (kind_of (record_with row.kind x y z u)) ≡ row = ap (λ (f : Facts). row_of f.2) facts ∙ ap (λ (f : Facts). f.0) facts in
-    let same : masked row.sorts (x ∷ y ∷ z ∷ u ∷ []) ≡ x ∷ y ∷ z ∷ u ∷ [] = masked_same row.sorts _ (sym (ap (λ (f : Facts). f.1) facts)) clear in
+    let found : row_of (kind_of (record_with row.kind x y z u)) ≡ row = ap (λ (f : Facts). row_of f.3) facts ∙ ap (λ (f : Facts). f.1) facts in
+    let same : masked row.sorts (x ∷ y ∷ z ∷ u ∷ []) ≡ x ∷ y ∷ z ∷ u ∷ [] = masked_same row.sorts _ (sym (ap (λ (f : Facts). f.2) facts)) clear in
     ap (λ (r : Row). 0x4D ∷ 0x54 ∷ r.byte ∷ masked r.sorts (fields_of (record_with row.kind x y z u))) found
-    ∙ ap (λ fields. 0x4D ∷ 0x54 ∷ row.byte ∷ masked row.sorts fields) (ap (λ (f : Facts). f.3) facts ∙ same)
+    ∙ ap (λ fields. 0x4D ∷ 0x54 ∷ row.byte ∷ masked row.sorts fields) (ap (λ (f : Facts). f.4) facts ∙ same)
     ∙ ap (λ fields. 0x4D ∷ 0x54 ∷ row.byte ∷ fields) same
 
 -- a record is read from its own seven bytes alone
@@ -124,20 +144,18 @@ only bytes x e =
     let kind = at.3 in
     (long, cc)
 
--- a record's row is found by its byte, four fields are written, and those that count say all that it says
+-- a record has four fields, and those that count say all that it says
 abbrev Said : Record → Type 0
-Said x =
-    let row : Row = row_of (kind_of x) in
-    (row_in kinds row.byte ≡ Some row) × (length (masked row.sorts (fields_of x)) ≡ 4) × (record_of row.kind (masked row.sorts (fields_of x)) ≡ x)
+Said x = (length (fields_of x) ≡ 4) × (record_of (row_of (kind_of x)).kind (masked (row_of (kind_of x)).sorts (fields_of x)) ≡ x)
 
 said : (x : Record) → Said x
-said (Open tables slots readings) = (refl, refl, refl)
-said (PairSlots i j) = (refl, refl, refl)
-said (PairReadings v w) = (refl, refl, refl)
-said (State (W b a i v)) = (refl, refl, refl)
-said (State (R a i v)) = (refl, refl, refl)
-said (State (E a b)) = (refl, refl, refl)
-said (State (D a b)) = (refl, refl, refl)
+said (Open tables slots readings) = (refl, refl)
+said (PairSlots i j) = (refl, refl)
+said (PairReadings v w) = (refl, refl)
+said (State (W b a i v)) = (refl, refl)
+said (State (R a i v)) = (refl, refl)
+said (State (E a b)) = (refl, refl)
+said (State (D a b)) = (refl, refl)
 
 -- what a reader does with seven bytes and more that begin with the mark
 reads_fields : (byte : ℕ) (fields rest : List ℕ) → length fields ≡ 4 → read_one (0x4D ∷ 0x54 ∷ byte ∷ (fields ++ rest)) ≡ read_fields (row_in kinds byte) fields
@@ -153,18 +171,24 @@ reads_fields byte (x ∷ y ∷ z ∷ u ∷ []) rest e =
 reads_fields byte (x ∷ y ∷ z ∷ u ∷ w ∷ more) rest e = absurd (omega arith)
 
 -- a record has seven bytes
+four_fields : (x : Record) → length (masked (row_of (kind_of x)).sorts (fields_of x)) ≡ 4
+four_fields x =
+    let four : length (row_of (kind_of x)).sorts ≡ 4 = ap (λ (f : Facts). f.2) (at_kind (kind_of x)) in
+    masked_length (row_of (kind_of x)).sorts (fields_of x) ((said x).0 ∙ sym four) ∙ four
+
 pub seven_bytes : (x : Record) → length (bytes_of x) ≡ 7
-seven_bytes x = omega (arith, (said x).1)
+seven_bytes x = omega (arith, four_fields x)
 
 -- a record is read back from its seven bytes, whatever follows
 pub back : (x : Record) (rest : List ℕ) → read_one (bytes_of x ++ rest) ≡ Ok (Some x)
 back x rest =
     let row : Row = row_of (kind_of x) in
+    let found : row_in kinds row.byte ≡ Some row = ap (λ (f : Facts). f.0) (at_kind (kind_of x)) in
     let fields : List ℕ = masked row.sorts (fields_of x) in
-    reads_fields row.byte fields rest (said x).1
-    ∙ ap (λ o. read_fields o fields) (said x).0
+    reads_fields row.byte fields rest (four_fields x)
+    ∙ ap (λ o. read_fields o fields) found
     ∙ cond-true _ _ _ (masked_clear row.sorts (fields_of x))
-    ∙ ap (λ r. Ok (Some r)) (said x).2
+    ∙ ap (λ r. Ok (Some r)) (said x).1
 
 -- a reader that answers none is at the end
 no_fields : (found : Option Row) (fields : List ℕ) → read_fields found fields ≡ Ok None → ⊥

@@ -2,15 +2,19 @@
 
 #![tactic(auto)]
 
-ghost use Rattle.std.specs.Prelude.{◌≡◌, ◌/◌, max, Some};
+ghost use Rattle.std.specs.Prelude.{◌≡◌, ◌/◌, max, nat_eq, Some};
 ghost use Rattle.timing.specs.Shown.{shown};
+ghost use Rattle.timing.specs.Words.{time_word};
+ghost use Rattle.std.specs.Cmp.Lexicographic.{pointwise};
 
-use std::env::Env;
-use std::{env, fmt, io};
+use std::fmt;
 
-/// Was the word `time` given?
-pub fn is_timed<R: Env + Alloc>(rt: &R) -> io::Result<bool> {
-    Ok(env::args(rt)?.any(|word| word.as_str() == "time"))
+/// Is it the word `time`, by which a program is asked for times?
+// Of one word, and not of all that were given: what a program was given is no value that a contract could speak of.
+pub fn asks_for_times(word: &str) -> bool
+    ensures { result ≡ pointwise nat_eq word.now time_word }
+{
+    word == "time"
 }
 
 /// A number of thousandths, printed with three digits after a point.

@@ -16,7 +16,7 @@ invariant_of-self-2 c =
     let names = and_parts (ltb c.args.i s.names) (ltb c.args.j s.names) (sym c.if-not-are_names.ensures) in
     let low = ltb-true c.args.i s.names names.0 in
     let low' = ltb-true c.args.j s.names names.1 in
-    let more = c.push.ensures.holds ∙ pushed_last 256 held v c.push.result c.push.ensures.answer (sym c.map_err.ensures.variant ∙ ap is_ok c.in_ok-map_err.was) in
+    let more = c.push.ensures.holds ∙ pushed_last _ held v c.push.result c.push.ensures.answer (sym c.map_err.ensures.variant ∙ ap is_ok c.in_ok-map_err.was) in
     let roots = c.join.ensures.joins held (omega (arith, low, s.few)) (omega (arith, low', s.few)) (record { low = s.grouped }) in
     record {
       few = s.few;
