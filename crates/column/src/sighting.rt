@@ -1,7 +1,6 @@
 //! Looking at a column.
 
 ghost use Rattle.std.specs.Prelude.{◌≡◌, ℕ, true, ◌||◌, List, [], ◌∷◌, ◌++◌};
-ghost use Rattle.arrangement.specs.Meaning.{Meaning};
 ghost use Rattle.column.specs.Naming.{setting_of};
 ghost use Rattle.column.specs.Sights.{Readable, Seen, SeenAt, marked_clash, marked_marks, reading_of, seem_alike, whole};
 ghost use Rattle.links.specs.Groups.{Roots, root_of};
@@ -16,17 +15,6 @@ use links::groups::{Groups, NAMES};
 use statement::Statement;
 
 impl Sight {
-    /// The groups, with no marks.
-    fn over(groups: Groups) -> Sight
-        ensures { (m : Meaning) (links : List (ℕ × ℕ)) → Roots links groups.root → Seen m links [] result }
-    {
-        Sight {
-            groups,
-            marks: [None; 128],
-            clash: false,
-        }
-    }
-
     /// Marks a table's group with a reading, by its lowest name: the first one stays, and another one clashes.
     fn add_mark(&mut self, table: u8, reading: u8)
         ensures groups { self.new.groups ≡ self.old.groups }
@@ -131,7 +119,11 @@ impl View<'_> {
     pub fn sight(&self, parts: &[&[Statement]]) -> Sight
         ensures { Readable (setting_of self.now.naming.now) (whole parts.now) → SeenAt (setting_of self.now.naming.now) (whole parts.now) self.now.column result }
     {
-        let mut sight = Sight::over(self.groups(parts));
+        let mut sight = Sight {
+            groups: self.groups(parts),
+            marks: [None; 128],
+            clash: false,
+        };
         for xs in parts {
             self.add_marks(&mut sight, xs);
         }

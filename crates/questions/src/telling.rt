@@ -10,6 +10,7 @@ use crate::marked::Marked;
 use crate::sighting::{lowest_slot, sight_in, view_in};
 use meaning::Column;
 use search::entry::Reached;
+use search::goal::Goal;
 use search::search::search;
 use standing::Standing;
 use statement::{Reading, Slot, Table};
@@ -28,9 +29,13 @@ impl Asked<'_> {
     fn distance(&self) -> Option<u8>
         ensures { result ≡ distance (setting_in self.now.standing.now) (list_in self.now.standing.now) self.now.column self.now.table }
     {
-        let links = gather(self.standing, self.column);
         let view = view_in(self.standing, self.column);
         let marked = Marked::of(view, self.standing.statements());
+        // Where the table is marked itself, there is nothing to search, and so nothing to gather.
+        if marked.met(self.table) {
+            return Some(0);
+        }
+        let links = gather(self.standing, self.column);
         search::<Gathered, Marked<'_>, Reached>(&links, &marked, self.table)
     }
 

@@ -1,6 +1,7 @@
 use Rattle.std.proofs.Common.{[], subst}
 use Rattle.column.specs.Naming.{setting_of}
 use Rattle.column.specs.Sights.{Seen, whole}
+use Rattle.column.proofs.Noting.{seen_none}
 use Rattle.column.proofs.Parts.{given_part, part_within}
 use Rattle.meaning.specs.Columns.{links_at, mark_at, marks_at}
 use Rattle.column.proofs.view.View.sight.Goals as goal
@@ -8,7 +9,7 @@ use Rattle.column.proofs.view.View.sight.Goals as goal
 pub loop-xs-init : goal.loop-xs-init
 unfolding marks_at
 loop-xs-init c readable =
-    let w = setting_of c.args.self.now.naming.now in c.over-sight.ensures w.readings _ (c.groups.ensures readable)
+    let w = setting_of c.args.self.now.naming.now in seen_none w.readings _ _ (c.groups.ensures readable)
 
 pub loop-xs-preserved : goal.loop-xs-preserved
 unfolding marks_at
